@@ -1,0 +1,3 @@
+pub mod LawOfLeaps
+pub mod Ones
+pub mod Turns

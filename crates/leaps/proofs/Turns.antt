@@ -1,0 +1,105 @@
+-- What a turn of each loop does: of the loop over a row's numbers, and of the loop over a table's rows.
+-- Assumes nothing.
+use mathlib.Core.Path.{_≡_, refl, sym, ap, ap₂, _∙_, subst}
+use mathlib.Core.List.{List, [], _∷_}
+use Prim.Native.Nat.{ℕ, zero, suc, _+_, _-_, _*_, _/_, _%_, _^_, _≤_, _<_}
+use native.Mathlib.Nat.{zero-mul, one-mul, suc-mul, add-zero, not-suc-le-zero}
+use native.Mathlib.Numerals.{add-one}
+use native.Mathlib.Omega.{arith}
+use lib.ListN.{length, getD, take, drop}
+use lib.Seq.{drop-cons, drop-length, drop-drop}
+use lib.Arith.{lt-one}
+use lib.Bits.{bitXor, xor-zero-r}
+use lib.Count.{ones, ones-step}
+use Rattle.registers.specs.Row.{combine}
+use Rattle.registers.proofs.Xor.{low, xor-assoc}
+use Rattle.registers.proofs.Linear.{half-lt}
+use Rattle.leaps.specs.Leaps.{leapIf, leaps}
+
+-- ---- over a row's numbers
+
+-- what was added so far, and what the numbers from j on still add
+unfoldable pub added : List ℕ → ℕ → ℕ → ℕ → ℕ
+added row j rest sum = bitXor sum (combine (drop j row) rest)
+
+pub added-first : (row : List ℕ) (r : ℕ) → added row 0 r 0 ≡ combine row r
+unfolding added
+added-first row r = refl
+
+added-turn : (row : List ℕ) (j rest sum d : ℕ) → j < length row → rest % 2 ≡ d
+    → added row (j + 1) (rest / 2) (bitXor sum (d * getD row j 0)) ≡ added row j rest sum
+unfolding added combine
+added-turn row j rest sum d h e =
+    ap (λ (k : ℕ). bitXor (bitXor sum (d * getD row j 0)) (combine (drop k row) (rest / 2))) (add-one j)
+    ∙ xor-assoc sum (d * getD row j 0) (combine (drop (suc j) row) (rest / 2))
+    ∙ ap (λ (z : ℕ). bitXor sum (bitXor (z * getD row j 0) (combine (drop (suc j) row) (rest / 2)))) (sym e)
+    ∙ ap (λ (l : List ℕ). bitXor sum (combine l rest)) (sym (drop-cons row j 0 h))
+
+pub added-one : (row : List ℕ) (j rest sum : ℕ) → j < length row → rest % 2 ≡ 1
+    → added row (j + 1) (rest / 2) (bitXor sum (getD row j 0)) ≡ added row j rest sum
+added-one row j rest sum h e = ap (λ (z : ℕ). added row (j + 1) (rest / 2) (bitXor sum z)) (sym (one-mul (getD row j 0))) ∙ added-turn row j rest sum 1 h e
+
+pub added-none : (row : List ℕ) (j rest sum : ℕ) → j < length row → (rest % 2 ≡ 1 → ⊥) → added row (j + 1) (rest / 2) sum ≡ added row j rest sum
+added-none row j rest sum h n =
+    ap (added row (j + 1) (rest / 2)) (sym (ap (bitXor sum) (zero-mul (getD row j 0)) ∙ xor-zero-r sum))
+    ∙ added-turn row j rest sum 0 h (omega (arith, low rest))
+
+pub added-last : (row : List ℕ) (rest sum : ℕ) → added row (length row) rest sum ≡ sum
+unfolding added combine
+added-last row rest sum = ap (λ (l : List ℕ). bitXor sum (combine l rest)) (drop-length row) ∙ xor-zero-r sum
+
+-- ---- over a table's rows
+
+-- `left` rows from place `at` on are still to be applied to r by the digits of p, and take the register to `goal`; the count and the ones of p
+-- make `total`
+pub record Still (s : ℕ) (t : List ℕ) (goal total left at p r count : ℕ) : Type 0 where
+  pub within : at + left * s ≤ length t
+  pub register : leaps left s (drop at t) p r ≡ goal
+  pub counted : count + ones p ≡ total
+  pub phase-in : p < 2 ^ left
+
+turn : (s : ℕ) (t : List ℕ) (goal total left at p r count d : ℕ) → 0 < left → p % 2 ≡ d → Still s t goal total left at p r count
+    → Still s t goal total (left - 1) (at + s) (p / 2) (leapIf d (take s (drop at t)) r) (count + d)
+unfolding leaps
+turn s t goal total zero at p r count d h e now = absurd (not-suc-le-zero h)
+turn s t goal total (suc n) at p r count d h e now =
+    subst (λ (m : ℕ). Still s t goal total m (at + s) (p / 2) (leapIf d (take s (drop at t)) r) (count + d)) one-less
+    record {
+      within = omega (arith, now .within, suc-mul n s);
+      register =
+          ap₂ (λ (l : List ℕ) (x : ℕ). leaps n s l (p / 2) (leapIf x (take s (drop at t)) r)) (sym (drop-drop s at t)) (sym e) ∙ now .register;
+      counted = omega (arith, ones-step p, now .counted);
+      phase-in = half-lt n (now .phase-in);
+    }
+  where
+    one-less : n ≡ suc n - 1
+    one-less = omega arith
+
+pub still-one : (s : ℕ) (t : List ℕ) (goal total left at p r count : ℕ) → 0 < left → p % 2 ≡ 1 → Still s t goal total left at p r count
+    → Still s t goal total (left - 1) (at + s) (p / 2) (combine (take (at + s - at) (drop at t)) r) (count + 1)
+unfolding leapIf
+still-one s t goal total left at p r count h e now =
+    let part : s ≡ at + s - at = omega arith in
+    subst (λ (n : ℕ). Still s t goal total (left - 1) (at + s) (p / 2) (combine (take n (drop at t)) r) (count + 1)) part
+    (turn s t goal total left at p r count 1 h e now)
+
+pub still-none : (s : ℕ) (t : List ℕ) (goal total left at p r count : ℕ) → 0 < left → (p % 2 ≡ 1 → ⊥) → Still s t goal total left at p r count
+    → Still s t goal total (left - 1) (at + s) (p / 2) r count
+unfolding leapIf
+still-none s t goal total left at p r count h e now =
+    subst (Still s t goal total (left - 1) (at + s) (p / 2) r) (add-zero count)
+    (turn s t goal total left at p r count 0 h (omega (arith, low p)) now)
+
+-- no row is left: the register and the count are there
+pub still-last : (s : ℕ) (t : List ℕ) (goal total left at p r count : ℕ) → left ≡ 0 → Still s t goal total left at p r count → (r ≡ goal) × (count ≡ total)
+unfolding leaps ones
+still-last s t goal total left at p r count e now =
+    let none : ones p ≡ 0 = ap ones (lt-one (subst (λ (n : ℕ). p < 2 ^ n) e (now .phase-in))) in (
+      ap (λ (n : ℕ). leaps n s (drop at t) p r) (sym e) ∙ now .register,
+      omega (arith, none, now .counted),
+    )
+
+-- the row at `at` lies within the table
+pub row-within : (s l left at : ℕ) → 0 < left → at + left * s ≤ l → at + s ≤ l
+row-within s l zero at h b = absurd (not-suc-le-zero h)
+row-within s l (suc n) at h b = omega (arith, suc-mul n s)

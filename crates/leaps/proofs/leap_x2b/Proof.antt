@@ -1,0 +1,24 @@
+-- `leaps::leap_x2b` meets its contract, by the law of leaps: `tt` is the rule of X2B's table, tested over all of its 144 numbers.
+-- Assumes nothing.
+use mathlib.Core.Path.{_∙_}
+use borrow.Author.Needs.{needs}
+use Rattle.registers.specs.Register.{stage, sumOf, shift}
+use Rattle.registers.specs.Row.{combine, columns}
+use Rattle.registers.proofs.Shifts.{x2b}
+use Rattle.leaps.proofs.LawOfLeaps.{by-table}
+use Rattle.leaps.proofs.leap_x2b.Statement.{statement}
+use Rattle.leaps.proofs.leap_x2b.Tie as tie
+
+slice-aggregate-leap-to : tie.Need-slice-aggregate-leap-to
+slice-aggregate-leap-to c = search needs
+
+leap-to-requires : tie.Need-leap-to-requires
+leap-to-requires c κs = search needs
+
+returns : tie.Need-returns
+unfolding combine columns stage sumOf shift
+returns c =
+    let asked = c .before .before in c .leap-to .ensures ∙ by-table x2b 12 _ tt (asked .args .from) (asked .args .phase) (asked .pre)
+
+pub leap-x2b-spec : {M : Type 1} → statement M
+leap-x2b-spec = tie.close (tie.spec slice-aggregate-leap-to leap-to-requires returns)

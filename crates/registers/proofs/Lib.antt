@@ -1,0 +1,6 @@
+pub mod Repeat
+pub mod Below
+pub mod Xor
+pub mod Linear
+pub mod Shifts
+pub mod Masks
