@@ -21,7 +21,7 @@ use Rattle.registers.proofs.Below.{both}
 use Rattle.registers.proofs.Repeat.{times-add, times-twice}
 use Rattle.registers.proofs.Xor.{digit, low}
 use Rattle.registers.proofs.Linear.{Linear, after, half-lt, combine-is}
-use Rattle.registers.proofs.Shifts.{Shift}
+use Rattle.registers.proofs.Shifts.{Shift, times-keeps}
 use Rattle.leaps.specs.declared.Leapt.{Leapt}
 use Rattle.leaps.specs.Leaps.{leapIf, leaps, leapsMade, leapt, Phase}
 
@@ -56,11 +56,11 @@ same-is (x ∷ xs) [] t = absurd t
 same-is (x ∷ xs) (y ∷ ys) t =
     let parts = both (eqb x y) (same xs ys) t in ap₂ (λ (z : ℕ) (zs : List ℕ). z ∷ zs) (eqb→eq x y (parts .0)) (same-is xs ys (parts .1))
 
-twice : {s : ℕ} {f : ℕ → ℕ} → Shift s f → Shift s (λ r. f (f r))
+pub twice : {s : ℕ} {f : ℕ → ℕ} → Shift s f → Shift s (λ r. f (f r))
 twice {s} {f} sh = record { linear = after (sh .linear) (sh .linear); keeps = λ r h. sh .keeps (f r) (sh .keeps r h) }
 
 -- the row of f, applied to itself, is the row of f twice
-next-row : {s : ℕ} {f : ℕ → ℕ} → Shift s f → (i n : ℕ) → i + n ≤ s
+pub next-row : {s : ℕ} {f : ℕ → ℕ} → Shift s f → (i n : ℕ) → i + n ≤ s
     → map (combine (columns f 0 s)) (columns f i n) ≡ columns (λ r. f (f r)) i n
 unfolding columns
 next-row sh i zero h = refl
@@ -110,11 +110,6 @@ entry-is f (suc n) s t rows (suc k) j hk hj =
 
 -- ---- the law
 
-times-keeps : {s : ℕ} {f : ℕ → ℕ} → Shift s f → (n r : ℕ) → r < 2 ^ s → times f n r < 2 ^ s
-unfolding times
-times-keeps sh zero r h = h
-times-keeps {s} {f} sh (suc n) r h = times-keeps sh n (f r) (sh .keeps r h)
-
 leapIf-is : {s : ℕ} {f : ℕ → ℕ} → Shift s f → (row : List ℕ) → row ≡ columns f 0 s → (d : ℕ) → d < 2 → (r : ℕ) → r < 2 ^ s → leapIf d row r ≡ times f d r
 unfolding leapIf times
 leapIf-is {s} {f} sh row e d hd r hr =
@@ -133,8 +128,9 @@ leaps-are {s} {f} sh (suc n) t rows p r hp hr =
     ∙ ap (λ (m : ℕ). times f m r) whole
 
 -- The same of the code's leaps by a table that passes the test. The table is the code's constant, and `tt` for the rule has it tested whole.
-pub by-table : {s : ℕ} {f : ℕ → ℕ} → Shift s f → (n : ℕ) (t : List ℕ) → T (rule f n s t) → (from : Leapt) (phase : ℕ) → Phase s n from phase
-    → leapsMade n s t phase from ≡ leapt f phase from
-by-table sh n t ok from phase h =
-    ap (λ (r : ℕ). record { register = r; count = from .count + ones phase })
+pub by-table : {s : ℕ} {f : ℕ → ℕ} → Shift s f → (n : ℕ) (t : List ℕ) {from : Leapt} {phase : ℕ} → T (rule f n s t) → Phase s n from phase
+    → {r : Leapt} → r ≡ leapsMade n s t phase from → r ≡ leapt f phase from
+by-table sh n t {from} {phase} ok h made =
+    made
+    ∙ ap (λ (r : ℕ). record { register = r; count = from .count + ones phase })
     (leaps-are sh n t (rows-are sh n t ok) phase (from .register) (h .phase-in) (h .register-in))

@@ -1,3 +1,4 @@
 pub mod LawOfLeaps
+pub mod Grown
 pub mod Ones
 pub mod Turns

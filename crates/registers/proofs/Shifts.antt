@@ -1,5 +1,6 @@
 -- Every shift is linear and keeps a register within its width, whatever the width and the taps.
 --     Shift s f    f is a linear function of registers of s stages; g1 .. l2 say so of the nine registers
+--     times-keeps  a register stays within its width through any number of shifts
 -- Assumes nothing.
 use mathlib.Core.Path.{_≡_, refl, sym, ap, ap₂, _∙_, subst}
 use Prim.Native.Nat.{ℕ, zero, suc, _+_, _-_, _*_, _/_, _%_, _^_, _<_}
@@ -10,6 +11,7 @@ use native.Mathlib.Numerals.{sub-one}
 use lib.Pow.{pow-pos}
 use lib.Dec.{lit<}
 use lib.Bits.{bitXor, xor-lt, xor-shr, xor-mod, xor-block}
+use Rattle.registers.specs.Times.{times}
 use Rattle.registers.specs.Register.{stage, sumOf, shift, shiftL2, shiftG1, shiftG2, shiftX1A, shiftX1B, shiftX2A, shiftX2B, shiftXA, shiftXB}
 use Rattle.registers.specs.Register.{tapsG1, tapsG2, tapsX1A, tapsX1B, tapsX2A, tapsX2B, tapsXA, tapsXB}
 use Rattle.registers.proofs.Xor.{digit, low, xor-half, xor-low, xor4}
@@ -18,6 +20,11 @@ use Rattle.registers.proofs.Linear.{Linear, scale-sum}
 pub record Shift (s : ℕ) (f : ℕ → ℕ) : Type 0 where
   pub linear : Linear f
   pub keeps : (r : ℕ) → r < 2 ^ s → f r < 2 ^ s
+
+pub times-keeps : {s : ℕ} {f : ℕ → ℕ} → Shift s f → (n r : ℕ) → r < 2 ^ s → times f n r < 2 ^ s
+unfolding times
+times-keeps sh zero r h = h
+times-keeps {s} {f} sh (suc n) r h = times-keeps sh n (f r) (sh .keeps r h)
 
 -- ---- registers with taps
 

@@ -1,0 +1,2 @@
+-- Where each register starts.
+pub mod Starts
