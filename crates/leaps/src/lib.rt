@@ -51,15 +51,15 @@ fn leap_to(table: &[u32], width: usize, rows: usize, from: Leapt, phase: u32) ->
     ensures { λ r. ⌜ r ≡ leapsMade rows width (now (table .entry)) phase from ⌝ }
 {
     let mut state = from;
-    let mut rest = phase;
+    let mut digits = phase;
     let mut left = rows;
     let mut at: usize = 0;
     while 0 < left {
         let end = at + width;
-        if rest % 2 == 1 {
+        if digits % 2 == 1 {
             state = apply_row(&table[at..end], state);
         }
-        rest = rest / 2;
+        digits = digits / 2;
         left -= 1;
         at = end;
     }

@@ -16,11 +16,11 @@ use Rattle.leaps.proofs.leap_to.Statement.{statement}
 use Rattle.leaps.proofs.leap_to.Tie as tie
 
 abbrev Inv-loop : tie.InvT-loop
-Inv-loop table width rows phase from rest₀ left₀ at₀ state rest left at =
-    Still width table (leaps rows width table phase (from .register)) (from .count + ones phase) left at rest (state .register) (state .count)
+Inv-loop table width rows phase from digits₀ left₀ at₀ state digits left at =
+    Still width table (leaps rows width table phase (from .register)) (from .count + ones phase) left at digits (state .register) (state .count)
 
 abbrev μ-loop : tie.MeasureT-loop
-μ-loop table width rows phase from rest₀ left₀ at₀ state rest left at = left
+μ-loop table width rows phase from digits₀ left₀ at₀ state digits left at = left
 
 loop-holds : tie.Need-loop-holds Inv-loop μ-loop
 loop-holds c =
@@ -70,12 +70,12 @@ loop-again c =
     let l = c .before .before .loop in
     let now : Leapt → Type 0 = λ s.
     Still (a .width) (a .table .now) (leaps (a .rows) (a .width) (a .table .now) (a .phase) (a .from .register)) (a .from .count + ones (a .phase))
-    (l .left - 1) (l .at + a .width) (l .rest / 2) (s .register) (s .count) in
+    (l .left - 1) (l .at + a .width) (l .digits / 2) (s .register) (s .count) in
     ⊎-elim
     (λ w. subst⁻¹ now (w .3 ∙ w .2 .ensures)
-    (still-one (a .width) (a .table .now) _ _ (l .left) (l .at) (l .rest) (l .state .register) (l .state .count) (c .before .loop-test .taken) (w .0 .taken) (l .inv)))
+    (still-one (a .width) (a .table .now) _ _ (l .left) (l .at) (l .digits) (l .state .register) (l .state .count) (c .before .loop-test .taken) (w .0 .taken) (l .inv)))
     (λ w. subst⁻¹ now (w .1)
-    (still-none (a .width) (a .table .now) _ _ (l .left) (l .at) (l .rest) (l .state .register) (l .state .count) (c .before .loop-test .taken) (w .0 .left) (l .inv)))
+    (still-none (a .width) (a .table .now) _ _ (l .left) (l .at) (l .digits) (l .state .register) (l .state .count) (c .before .loop-test .taken) (w .0 .left) (l .inv)))
     (c .if1 .came)
 
 returns : tie.Need-returns Inv-loop μ-loop
@@ -83,7 +83,7 @@ returns c =
     let a = c .before .before .before .args in
     let l = c .before .loop in
     let done : l .left ≡ 0 = omega arith in
-    let there = still-last (a .width) (a .table .now) _ _ (l .left) (l .at) (l .rest) (l .state .register) (l .state .count) done (l .inv) in
+    let there = still-last (a .width) (a .table .now) _ _ (l .left) (l .at) (l .digits) (l .state .register) (l .state .count) done (l .inv) in
     λ j. record { register = there .0 j; count = there .1 j }
 
 pub leap-to-spec : {M : Type 1} → statement M
