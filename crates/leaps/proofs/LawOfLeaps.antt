@@ -3,11 +3,11 @@
 --     entry-is    the rule carried to each entry: column j of row k is 2 ^ k shifts of the register that has only stage j + 1
 --     leaps-are   the rows at the ones of p, applied, are p shifts
 -- Assumes nothing.
-use mathlib.Core.Path.{_≡_, refl, sym, ap, ap₂, _∙_, subst}
+use mathlib.Core.Path.{_≡_, refl, sym, ap, ap₂, _∙_}
 use mathlib.Core.Bool.{Bool, true, false, _&&_}
 use mathlib.Core.List.{List, [], _∷_, map}
-use Prim.Native.Nat.{ℕ, zero, suc, _+_, _*_, _/_, _%_, _^_, _≤_, _<_, suc-le-suc}
-use native.Mathlib.Nat.{zero-add, add-zero, add-suc, suc-add, zero-mul, suc-mul, pow-suc, add-comm, add-assoc, not-suc-le-zero, le-of-suc-le-suc, div-add-mod'}
+use Prim.Native.Nat.{ℕ, zero, suc, _+_, _*_, _/_, _%_, _^_, _≤_, _<_}
+use native.Mathlib.Nat.{zero-add, add-zero, add-suc, suc-add, suc-mul, pow-suc, not-suc-le-zero, le-of-suc-le-suc}
 use native.Mathlib.Omega.{arith}
 use lib.Arith.{lt-one}
 use lib.Pow.{pow-lt}
@@ -20,10 +20,10 @@ use Rattle.registers.specs.Row.{combine, columns}
 use Rattle.registers.proofs.Below.{both}
 use Rattle.registers.proofs.Repeat.{times-add, times-twice}
 use Rattle.registers.proofs.Xor.{digit, low}
-use Rattle.registers.proofs.Linear.{Linear, after, half-lt, combine-is}
+use Rattle.registers.proofs.Linear.{after, half-lt, combine-is}
 use Rattle.registers.proofs.Shifts.{Shift, times-keeps}
 use Rattle.leaps.specs.declared.Leapt.{Leapt}
-use Rattle.leaps.specs.Leaps.{leapIf, leaps, leapsMade, leapt, Phase}
+use Rattle.leaps.specs.Leaps.{leapIf, leaps, leapByTable, leapBy, Within}
 
 -- ---- the rule of a table
 
@@ -95,18 +95,22 @@ getD-columns f i zero j h = absurd (not-suc-le-zero h)
 getD-columns f i (suc n) zero h = ap (λ (k : ℕ). f (2 ^ k)) (sym (add-zero i))
 getD-columns f i (suc n) (suc j) h = getD-columns f (suc i) n j (le-of-suc-le-suc h) ∙ ap (λ (k : ℕ). f (2 ^ k)) (suc-add i j ∙ sym (add-suc i j))
 
-pub entry-is : (f : ℕ → ℕ) (n s : ℕ) (t : List ℕ) → Rows f n s t → (k j : ℕ) → k < n → j < s → getD t (k * s + j) 0 ≡ times f (2 ^ k) (2 ^ j)
+entry-at : (f : ℕ → ℕ) (n s : ℕ) (t : List ℕ) → Rows f n s t → (k j : ℕ) → k < n → j < s → getD t (k * s + j) 0 ≡ times f (2 ^ k) (2 ^ j)
 unfolding Rows times
-entry-is f zero s t rows k j hk hj = absurd (not-suc-le-zero hk)
-entry-is f (suc n) s t rows zero j hk hj =
+entry-at f zero s t rows k j hk hj = absurd (not-suc-le-zero hk)
+entry-at f (suc n) s t rows zero j hk hj =
     let first : 0 * s + j ≡ j = omega arith in
     ap (λ (i : ℕ). getD t i 0) first ∙ sym (getD-take s t j 0 hj) ∙ ap (λ (row : List ℕ). getD row j 0) (rows .0)
     ∙ getD-columns f 0 s j hj ∙ ap (λ (i : ℕ). f (2 ^ i)) (zero-add j)
-entry-is f (suc n) s t rows (suc k) j hk hj =
+entry-at f (suc n) s t rows (suc k) j hk hj =
     let below : suc k * s + j ≡ s + (k * s + j) = omega (arith, suc-mul k s) in
     ap (λ (i : ℕ). getD t i 0) below ∙ sym (getD-drop s t (k * s + j) 0)
-    ∙ entry-is (λ r. f (f r)) n s (drop s t) (rows .1) k j (le-of-suc-le-suc hk) hj
+    ∙ entry-at (λ r. f (f r)) n s (drop s t) (rows .1) k j (le-of-suc-le-suc hk) hj
     ∙ times-twice f (2 ^ k) (2 ^ j) ∙ ap (λ (m : ℕ). times f m (2 ^ j)) (sym (pow-suc 2 k))
+
+pub entry-is : {s : ℕ} {f : ℕ → ℕ} → Shift s f → (n : ℕ) (t : List ℕ) → T (rule f n s t) → (k j : ℕ) → k < n → j < s
+    → getD t (k * s + j) 0 ≡ times f (2 ^ k) (2 ^ j)
+entry-is {s} {f} sh n t ok = entry-at f n s t (rows-are sh n t ok)
 
 -- ---- the law
 
@@ -128,8 +132,8 @@ leaps-are {s} {f} sh (suc n) t rows p r hp hr =
     ∙ ap (λ (m : ℕ). times f m r) whole
 
 -- The same of the code's leaps by a table that passes the test. The table is the code's constant, and `tt` for the rule has it tested whole.
-pub by-table : {s : ℕ} {f : ℕ → ℕ} → Shift s f → (n : ℕ) (t : List ℕ) {from : Leapt} {phase : ℕ} → T (rule f n s t) → Phase s n from phase
-    → {r : Leapt} → r ≡ leapsMade n s t phase from → r ≡ leapt f phase from
+pub by-table : {s : ℕ} {f : ℕ → ℕ} → Shift s f → (n : ℕ) (t : List ℕ) {from : Leapt} {phase : ℕ} → T (rule f n s t) → Within s n from phase
+    → {r : Leapt} → r ≡ leapByTable n s t phase from → r ≡ leapBy f phase from
 by-table sh n t {from} {phase} ok h made =
     made
     ∙ ap (λ (r : ℕ). record { register = r; count = from .count + ones phase })

@@ -1,6 +1,6 @@
 -- How many leaps a phase can take: the ones of a number below a phase limit of document 01.
 -- Assumes nothing.
-use mathlib.Core.Path.{_≡_, refl, sym, ap, _∙_, subst}
+use mathlib.Core.Path.{_≡_, refl, sym, ap, subst}
 use Prim.Native.Nat.{ℕ, zero, suc, _+_, _-_, _/_, _%_, _^_, _≤_, _<_}
 use native.Mathlib.Nat.{le-of-eq, pow-suc}
 use native.Mathlib.Omega.{arith}

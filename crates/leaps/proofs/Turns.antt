@@ -1,7 +1,7 @@
 -- What a turn of each loop does: of the loop over a row's numbers, and of the loop over a table's rows.
 -- Assumes nothing.
 use mathlib.Core.Path.{_≡_, refl, sym, ap, ap₂, _∙_, subst}
-use mathlib.Core.List.{List, [], _∷_}
+use mathlib.Core.List.{List}
 use Prim.Native.Nat.{ℕ, zero, suc, _+_, _-_, _*_, _/_, _%_, _^_, _≤_, _<_}
 use native.Mathlib.Nat.{zero-mul, one-mul, suc-mul, add-zero, not-suc-le-zero}
 use native.Mathlib.Numerals.{add-one}

@@ -3,7 +3,7 @@
 --     combine-is   the row of f at the powers of two, applied to a number, is f of the number
 --     agree        two linear functions that agree at the powers of two agree
 -- Assumes nothing.
-use mathlib.Core.Path.{_≡_, refl, sym, ap, ap₂, _∙_}
+use mathlib.Core.Path.{_≡_, sym, ap, ap₂, _∙_}
 use mathlib.Core.List.{List}
 use Prim.Native.Nat.{ℕ, zero, suc, _+_, _*_, _/_, _%_, _^_, _<_}
 use native.Mathlib.Nat.{zero-mul, one-mul, mul-one, pow-suc, div-add-mod'}

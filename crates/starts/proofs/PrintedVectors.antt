@@ -1,17 +1,18 @@
 -- XB's start vectors as Table 3-I of document 003 prints them, stage 13 at the RIGHT. Read so, each is its row's advance from all ones: vector and
 -- advance differ in no row.
---     advance-i5, advance-q5   the vector of a PRN is its start
+--     vector-i5, vector-q5   the start of a PRN, which is an advance, is its vector
 -- Assumes nothing.
 use mathlib.Core.Path.{_≡_}
 use mathlib.Core.List.{List, [], _∷_, map}
-use Prim.Native.Nat.{ℕ, zero, suc, _+_, _-_, _*_, _/_, _%_, _^_, _<_}
+use Prim.Native.Nat.{ℕ, zero, suc, _+_, _-_, _*_, _/_, _%_, _^_}
+use native.Mathlib.Omega.{arith}
 use lib.ListN.{getD}
 use Rattle.registers.specs.Register.{stage, sumOf, shift}
 use Rattle.registers.specs.Row.{combine, columns}
 use Rattle.leaps.specs.Leaps.{leapIf, leaps}
-use Rattle.leaps.proofs.Grown.{grown}
-use Rattle.starts.specs.Starts.{advancesI5, advancesQ5, advancedXB}
-use Rattle.starts.proofs.Advances.{tableXB, right, advanced}
+use Rattle.registers.proofs.Shifts.{xb}
+use Rattle.leaps.proofs.Grown.{grown, reaches, reached}
+use Rattle.starts.specs.Starts.{Listed, entryOf, advancesI5, advancesQ5, advancedXB, startI5, startQ5}
 
 unfoldable pub vectorsI5 : List ℕ
 vectorsI5 =
@@ -32,10 +33,12 @@ unfoldable pub turned : ℕ → ℕ → ℕ
 turned zero v = 0
 turned (suc n) v = v % 2 * 2 ^ n + turned n (v / 2)
 
-pub vector-i5 : (k : ℕ) → k < 37 → getD (map (turned 13) vectorsI5) k 0 ≡ advancedXB (getD advancesI5 k 0)
-unfolding turned vectorsI5 advancesI5 right tableXB grown columns shift sumOf stage combine leaps leapIf
-vector-i5 = advanced 37 (map (turned 13) vectorsI5) advancesI5 tt
+pub vector-i5 : (prn : ℕ) → Listed 37 prn → startI5 prn ≡ entryOf (map (turned 13) vectorsI5) prn
+unfolding startI5 advancesI5 advancedXB turned vectorsI5 reaches grown columns shift sumOf stage combine leaps leapIf
+vector-i5 prn h =
+    reached xb 13 (λ k. getD advancesI5 k 0) (λ k. 0b1111111111111) (λ k. getD (map (turned 13) vectorsI5) k 0) 37 tt (prn - 1) (omega arith)
 
-pub vector-q5 : (k : ℕ) → k < 37 → getD (map (turned 13) vectorsQ5) k 0 ≡ advancedXB (getD advancesQ5 k 0)
-unfolding turned vectorsQ5 advancesQ5 right tableXB grown columns shift sumOf stage combine leaps leapIf
-vector-q5 = advanced 37 (map (turned 13) vectorsQ5) advancesQ5 tt
+pub vector-q5 : (prn : ℕ) → Listed 37 prn → startQ5 prn ≡ entryOf (map (turned 13) vectorsQ5) prn
+unfolding startQ5 advancesQ5 advancedXB turned vectorsQ5 reaches grown columns shift sumOf stage combine leaps leapIf
+vector-q5 prn h =
+    reached xb 13 (λ k. getD advancesQ5 k 0) (λ k. 0b1111111111111) (λ k. getD (map (turned 13) vectorsQ5) k 0) 37 tt (prn - 1) (omega arith)

@@ -6,7 +6,7 @@ use Prim.Native.Nat.{ℕ, zero, suc, _+_, _-_, _*_, _^_, _≤_, _<_}
 use native.Mathlib.Omega.{arith}
 use lib.Dec.{T, ltb, leb, ltb→lt, leb→le, lit<}
 use lib.ListN.{getD}
-use Rattle.registers.proofs.Below.{both, below, at}
+use Rattle.registers.proofs.Below.{both, at}
 use Rattle.registers.proofs.Shifts.{xb, times-keeps}
 use Rattle.starts.specs.Starts.{Listed, stagesCA, stagesOf, startsCM, startsCL, startCM, startCL, advancedXB, startI5, startQ5}
 

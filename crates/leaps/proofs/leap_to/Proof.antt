@@ -1,10 +1,9 @@
 -- `leaps::leap_to` meets its contract. The loop's invariant: the rows that are left take the register to where all rows take the start, and the
 -- count with the ones that are left makes the ones of the phase.
 -- Assumes nothing.
-use mathlib.Core.Path.{_≡_, refl, _∙_, subst, subst⁻¹}
+use mathlib.Core.Path.{_≡_, refl, _∙_, subst⁻¹}
 use mathlib.Core.Logic.{⊎-elim}
-use Prim.Native.Nat.{ℕ, zero, suc, _≤_, _-_, _+_, _/_, _*_}
-use native.Mathlib.Nat.{suc-mul}
+use Prim.Native.Nat.{_≤_, _-_, _+_, _/_}
 use native.Mathlib.Omega.{arith}
 use lib.ListN.{length}
 use lib.Count.{ones, ones-le}

@@ -1,9 +1,7 @@
 -- `starts::start_i5` meets its contract: the code's table has the printed vectors, turned, and those are the advances.
 -- Assumes nothing.
-use Prim.Native.Nat.{_-_}
-use native.Mathlib.Omega.{arith}
+use mathlib.Core.Path.{sym}
 use borrow.Author.Needs.{needs}
-use Rattle.starts.specs.Starts.{startI5}
 use Rattle.starts.proofs.PrintedVectors.{turned, vectorsI5, vector-i5}
 use Rattle.starts.proofs.start_i5.Statement.{statement}
 use Rattle.starts.proofs.start_i5.Tie as tie
@@ -18,8 +16,8 @@ array-read-result : tie.Need-array-read-result
 array-read-result c = search needs
 
 returns : tie.Need-returns
-unfolding startI5 turned vectorsI5
-returns c = vector-i5 (c .args .prn - 1) (omega arith)
+unfolding turned vectorsI5
+returns c = sym (vector-i5 (c .args .prn) (c .pre))
 
 pub start-i5-spec : {M : Type 1} → statement M
 start-i5-spec = tie.close (tie.spec sub-result mul-result array-read-result returns)

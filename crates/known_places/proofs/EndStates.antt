@@ -2,20 +2,18 @@
 -- description gives every one of them.
 --     end-cm, end-cl   the register of a PRN at phase 10,229 of CM and at phase 767,249 of CL
 -- Assumes nothing.
-use mathlib.Core.Path.{_≡_, _∙_}
-use mathlib.Core.Bool.{Bool, _&&_}
+use mathlib.Core.Path.{_≡_}
 use mathlib.Core.List.{List, [], _∷_}
-use Prim.Native.Nat.{ℕ, _^_, _<_}
-use lib.Dec.{T, eqb, ltb, eqb→eq, ltb→lt, lit<}
+use Prim.Native.Nat.{ℕ, _-_}
+use native.Mathlib.Omega.{arith}
 use lib.ListN.{getD}
 use Rattle.registers.specs.Times.{times}
 use Rattle.registers.specs.Register.{shiftL2}
 use Rattle.registers.specs.Row.{combine, columns}
-use Rattle.registers.proofs.Below.{both, below, at}
 use Rattle.registers.proofs.Shifts.{l2}
 use Rattle.leaps.specs.Leaps.{leapIf, leaps}
-use Rattle.leaps.proofs.Grown.{grown, by-leaps}
-use Rattle.starts.specs.Starts.{startsCM, startsCL}
+use Rattle.leaps.proofs.Grown.{grown, reaches, reached}
+use Rattle.starts.specs.Starts.{Listed, entryOf, startsCM, startsCL, startCM, startCL}
 
 unfoldable pub endsCM : List ℕ
 endsCM =
@@ -31,25 +29,10 @@ endsCL =
     0o730125345 ∷ 0o000316074 ∷ 0o171313614 ∷ 0o001523662 ∷ 0o023457250 ∷ 0o330733254 ∷ 0o625055726 ∷ 0o476524061 ∷ 0o602066031 ∷ 0o012412526 ∷
     0o705144501 ∷ 0o615373171 ∷ 0o041637664 ∷ 0o100107264 ∷ 0o634251723 ∷ 0o257012032 ∷ 0o703702423 ∷ []
 
-unfoldable tableL2 : List ℕ
-tableL2 = grown 20 (columns shiftL2 0 27)
+pub end-cm : (prn : ℕ) → Listed 37 prn → times shiftL2 10229 (startCM prn) ≡ entryOf endsCM prn
+unfolding startCM startsCM endsCM reaches grown columns shiftL2 combine leaps leapIf
+end-cm prn h = reached l2 20 (λ k. 10229) (λ k. getD startsCM k 0) (λ k. getD endsCM k 0) 37 tt (prn - 1) (omega arith)
 
--- leaps bring entry k of the starts to entry k of the ends
-unfoldable right : List ℕ → List ℕ → ℕ → List ℕ → ℕ → Bool
-right table starts p ends k = ltb (getD starts k 0) (2 ^ 27) && eqb (leaps 20 27 table p (getD starts k 0)) (getD ends k 0)
-
-ended : (n : ℕ) (starts : List ℕ) (p : ℕ) (ends : List ℕ) → p < 2 ^ 20 → T (below n (right tableL2 starts p ends)) → (k : ℕ) → k < n
-    → times shiftL2 p (getD starts k 0) ≡ getD ends k 0
-unfolding right tableL2
-ended n starts p ends hp ok k h =
-    let r : ℕ = getD starts k 0 in
-    let parts = both (ltb r (2 ^ 27)) (eqb (leaps 20 27 tableL2 p r) (getD ends k 0)) (at n (right tableL2 starts p ends) ok k h) in
-    by-leaps l2 20 p r hp (ltb→lt r (2 ^ 27) (parts .0)) ∙ eqb→eq (leaps 20 27 tableL2 p r) (getD ends k 0) (parts .1)
-
-pub end-cm : (k : ℕ) → k < 37 → times shiftL2 10229 (getD startsCM k 0) ≡ getD endsCM k 0
-unfolding startsCM endsCM right tableL2 grown columns shiftL2 combine leaps leapIf
-end-cm = ended 37 startsCM 10229 endsCM (lit< tt) tt
-
-pub end-cl : (k : ℕ) → k < 37 → times shiftL2 767249 (getD startsCL k 0) ≡ getD endsCL k 0
-unfolding startsCL endsCL right tableL2 grown columns shiftL2 combine leaps leapIf
-end-cl = ended 37 startsCL 767249 endsCL (lit< tt) tt
+pub end-cl : (prn : ℕ) → Listed 37 prn → times shiftL2 767249 (startCL prn) ≡ entryOf endsCL prn
+unfolding startCL startsCL endsCL reaches grown columns shiftL2 combine leaps leapIf
+end-cl prn h = reached l2 20 (λ k. 767249) (λ k. getD startsCL k 0) (λ k. getD endsCL k 0) 37 tt (prn - 1) (omega arith)

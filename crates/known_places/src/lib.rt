@@ -1,0 +1,1 @@
+// What the papers print of places that are known, proved of the definitions. No code.
