@@ -1,6 +1,6 @@
 -- The known places of document 01 (◆) that speak of one register.
 -- Assumes nothing.
-use mathlib.Core.Path.{_≡_, refl, _∙_}
+use mathlib.Core.Path.{_≡_}
 use lib.Dec.{lit<}
 use Rattle.registers.specs.Times.{times}
 use Rattle.registers.specs.Register.{stage, sumOf, shift, shiftX1A}
@@ -13,4 +13,4 @@ use Rattle.starts.specs.Starts.{startX1A}
 -- ◆ "P at 4,091: X1A is 000100100100." Computed by eleven leaps.
 pub x1a-at-4091 : times shiftX1A 4091 startX1A ≡ 0b000100100100
 unfolding grown columns shift sumOf stage combine leaps leapIf
-x1a-at-4091 = by-leaps x1a 12 4091 startX1A (lit< tt) (lit< tt) ∙ refl
+x1a-at-4091 = by-leaps x1a 12 4091 startX1A (lit< tt) (lit< tt)

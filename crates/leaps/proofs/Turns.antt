@@ -58,11 +58,11 @@ pub record Still (s : ℕ) (t : List ℕ) (goal total left at p r count : ℕ) :
   pub counted : count + ones p ≡ total
   pub phase-in : p < 2 ^ left
 
-turn : (s : ℕ) (t : List ℕ) (goal total left at p r count d : ℕ) → 0 < left → p % 2 ≡ d → Still s t goal total left at p r count
+turn : {s : ℕ} {t : List ℕ} {goal total left at p r count : ℕ} (d : ℕ) → 0 < left → p % 2 ≡ d → Still s t goal total left at p r count
     → Still s t goal total (left - 1) (at + s) (p / 2) (leapIf d (take s (drop at t)) r) (count + d)
 unfolding leaps
-turn s t goal total zero at p r count d h e now = absurd (not-suc-le-zero h)
-turn s t goal total (suc n) at p r count d h e now =
+turn {left = zero} d h e now = absurd (not-suc-le-zero h)
+turn {s} {t} {goal} {total} {left = suc n} {at = at} {p = p} {r = r} {count = count} d h e now =
     subst (λ (m : ℕ). Still s t goal total m (at + s) (p / 2) (leapIf d (take s (drop at t)) r) (count + d)) one-less
     record {
       within = omega (arith, now .within, suc-mul n s);
@@ -75,31 +75,31 @@ turn s t goal total (suc n) at p r count d h e now =
     one-less : n ≡ suc n - 1
     one-less = omega arith
 
-pub still-one : (s : ℕ) (t : List ℕ) (goal total left at p r count : ℕ) → 0 < left → p % 2 ≡ 1 → Still s t goal total left at p r count
+pub still-one : {s : ℕ} {t : List ℕ} {goal total left at p r count : ℕ} → 0 < left → p % 2 ≡ 1 → Still s t goal total left at p r count
     → Still s t goal total (left - 1) (at + s) (p / 2) (combine (take (at + s - at) (drop at t)) r) (count + 1)
 unfolding leapIf
-still-one s t goal total left at p r count h e now =
+still-one {s} {t} {goal} {total} {left} {at} {p} {r} {count} h e now =
     let part : s ≡ at + s - at = omega arith in
     subst (λ (n : ℕ). Still s t goal total (left - 1) (at + s) (p / 2) (combine (take n (drop at t)) r) (count + 1)) part
-    (turn s t goal total left at p r count 1 h e now)
+    (turn 1 h e now)
 
-pub still-none : (s : ℕ) (t : List ℕ) (goal total left at p r count : ℕ) → 0 < left → (p % 2 ≡ 1 → ⊥) → Still s t goal total left at p r count
+pub still-none : {s : ℕ} {t : List ℕ} {goal total left at p r count : ℕ} → 0 < left → (p % 2 ≡ 1 → ⊥) → Still s t goal total left at p r count
     → Still s t goal total (left - 1) (at + s) (p / 2) r count
 unfolding leapIf
-still-none s t goal total left at p r count h e now =
+still-none {s} {t} {goal} {total} {left} {at} {p} {r} {count} h e now =
     subst (Still s t goal total (left - 1) (at + s) (p / 2) r) (add-zero count)
-    (turn s t goal total left at p r count 0 h (omega (arith, low p)) now)
+    (turn 0 h (omega (arith, low p)) now)
 
 -- no row is left: the register and the count are there
-pub still-last : (s : ℕ) (t : List ℕ) (goal total left at p r count : ℕ) → left ≡ 0 → Still s t goal total left at p r count → (r ≡ goal) × (count ≡ total)
+pub still-last : {s : ℕ} {t : List ℕ} {goal total left at p r count : ℕ} → left ≡ 0 → Still s t goal total left at p r count → (r ≡ goal) × (count ≡ total)
 unfolding leaps ones
-still-last s t goal total left at p r count e now =
+still-last {s} {t} {left = left} {at = at} {p = p} {r = r} e now =
     let none : ones p ≡ 0 = ap ones (lt-one (subst (λ (n : ℕ). p < 2 ^ n) e (now .phase-in))) in (
       ap (λ (n : ℕ). leaps n s (drop at t) p r) (sym e) ∙ now .register,
       omega (arith, none, now .counted),
     )
 
 -- the row at `at` lies within the table
-pub row-within : (s l left at : ℕ) → 0 < left → at + left * s ≤ l → at + s ≤ l
-row-within s l zero at h b = absurd (not-suc-le-zero h)
-row-within s l (suc n) at h b = omega (arith, suc-mul n s)
+pub row-within : {s : ℕ} {t : List ℕ} {goal total left at p r count : ℕ} → 0 < left → Still s t goal total left at p r count → at + s ≤ length t
+row-within {left = zero} h now = absurd (not-suc-le-zero h)
+row-within {s} {left = suc n} h now = omega (arith, now .within, suc-mul n s)

@@ -1,4 +1,5 @@
--- Where each register starts, and what it starts from depends on. Document 01, "Registers"; document 000, Table 3-IIa; document 003, Table 3-I.
+-- Where each register starts, and the two stages of G2 that a PRN adds: document 01, "Registers" and "The stepped machine"; document 000,
+-- Table 3-IIa; document 003, Table 3-I.
 -- Assumes nothing.
 use Prim.Native.Nat.{ℕ, _+_, _-_, _*_, _≤_}
 use mathlib.Core.List.{List, [], _∷_}

@@ -3,9 +3,8 @@
 -- Assumes nothing.
 use mathlib.Core.Path.{_≡_, refl, _∙_, subst⁻¹}
 use mathlib.Core.Logic.{⊎-elim}
-use Prim.Native.Nat.{_≤_, _-_, _+_, _/_}
+use Prim.Native.Nat.{_-_, _+_, _/_}
 use native.Mathlib.Omega.{arith}
-use lib.ListN.{length}
 use lib.Count.{ones, ones-le}
 use borrow.Author.Needs.{needs}
 use Rattle.leaps.specs.Leaps.{leaps}
@@ -23,15 +22,11 @@ abbrev μ-loop : tie.MeasureT-loop
 
 loop-holds : tie.Need-loop-holds Inv-loop μ-loop
 loop-holds c =
-    let a = c .before .args in
     let p = c .before .pre in
     record { within = omega (arith, p .long); register = refl; counted = refl; phase-in = p .phase-in }
 
 add-end : tie.Need-add-end Inv-loop μ-loop
-add-end c =
-    let l = c .before .loop in
-    let a = c .before .before .before .args in
-    omega (arith, row-within (a .width) (length (a .table .now)) (l .left) (l .at) (c .loop-test .taken) (l .inv .within))
+add-end c = omega (arith, row-within (c .loop-test .taken) (c .before .loop .inv))
 
 mul-apply-row : tie.Need-mul-apply-row Inv-loop μ-loop
 mul-apply-row c = search needs
@@ -43,12 +38,7 @@ part-apply-row-start : tie.Need-part-apply-row-start Inv-loop μ-loop
 part-apply-row-start c = search needs
 
 part-apply-row-end : tie.Need-part-apply-row-end Inv-loop μ-loop
-part-apply-row-end c =
-    let l = c .before .before .loop in
-    let a = c .before .before .before .before .args in
-    let fits : l .at + a .width ≤ length (a .table .now) =
-    row-within (a .width) (length (a .table .now)) (l .left) (l .at) (c .before .loop-test .taken) (l .inv .within) in
-    search needs
+part-apply-row-end c = let fits = row-within (c .before .loop-test .taken) (c .before .before .loop .inv) in search needs
 
 apply-row-requires : tie.Need-apply-row-requires Inv-loop μ-loop
 apply-row-requires c κs =
@@ -72,17 +62,15 @@ loop-again c =
     (l .left - 1) (l .at + a .width) (l .digits / 2) (s .register) (s .count) in
     ⊎-elim
     (λ w. subst⁻¹ now (w .3 ∙ w .2 .ensures)
-    (still-one (a .width) (a .table .now) _ _ (l .left) (l .at) (l .digits) (l .state .register) (l .state .count) (c .before .loop-test .taken) (w .0 .taken) (l .inv)))
+    (still-one (c .before .loop-test .taken) (w .0 .taken) (l .inv)))
     (λ w. subst⁻¹ now (w .1)
-    (still-none (a .width) (a .table .now) _ _ (l .left) (l .at) (l .digits) (l .state .register) (l .state .count) (c .before .loop-test .taken) (w .0 .left) (l .inv)))
+    (still-none (c .before .loop-test .taken) (w .0 .left) (l .inv)))
     (c .if1 .came)
 
 returns : tie.Need-returns Inv-loop μ-loop
 returns c =
-    let a = c .before .before .before .args in
-    let l = c .before .loop in
-    let done : l .left ≡ 0 = omega arith in
-    let there = still-last (a .width) (a .table .now) _ _ (l .left) (l .at) (l .digits) (l .state .register) (l .state .count) done (l .inv) in
+    let done : c .before .loop .left ≡ 0 = omega arith in
+    let there = still-last done (c .before .loop .inv) in
     λ j. record { register = there .0 j; count = there .1 j }
 
 pub leap-to-spec : {M : Type 1} → statement M
