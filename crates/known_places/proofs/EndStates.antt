@@ -11,7 +11,8 @@ use lib.Dec.{lit<}
 use lib.ListN.{getD}
 use Rattle.registers.specs.Times.{times}
 use Rattle.registers.specs.Register.{stage, sumOf, shift, shiftX1A, shiftX1B, shiftX2A, shiftX2B, shiftL2}
-use Rattle.registers.specs.Row.{combine, columns}
+use Rattle.registers.specs.Row.{combine}
+use Rattle.registers.proofs.Linear.{columns}
 use Rattle.registers.proofs.Shifts.{x1a, x1b, x2a, x2b, l2}
 use Rattle.leaps.specs.Leaps.{leapIf, leaps}
 use Rattle.leaps.proofs.Grown.{grown, by-leaps, reaches, reached}

@@ -1,2 +1,2 @@
-pub mod KnownPlaces
 pub mod EndStates
+pub mod KnownPlaces

@@ -11,7 +11,8 @@ use lib.Dec.{T, eqb, ltb, eqb→eq, ltb→lt}
 use lib.ListN.{length, drop}
 use lib.Seq.{take-at, drop-at}
 use Rattle.registers.specs.Times.{times}
-use Rattle.registers.specs.Row.{combine, columns}
+use Rattle.registers.specs.Row.{combine}
+use Rattle.registers.proofs.Linear.{columns}
 use Rattle.registers.proofs.Below.{both, below, at}
 use Rattle.registers.proofs.Shifts.{Shift}
 use Rattle.leaps.specs.Leaps.{leaps}

@@ -16,11 +16,11 @@ use lib.Count.{ones}
 use lib.ListN.{take, drop, getD}
 use lib.Seq.{getD-take, getD-drop}
 use Rattle.registers.specs.Times.{times}
-use Rattle.registers.specs.Row.{combine, columns}
+use Rattle.registers.specs.Row.{combine}
 use Rattle.registers.proofs.Below.{both}
 use Rattle.registers.proofs.Repeat.{times-add, times-twice}
 use Rattle.registers.proofs.Xor.{digit, low}
-use Rattle.registers.proofs.Linear.{after, half-lt, combine-is}
+use Rattle.registers.proofs.Linear.{columns, after, half-lt, combine-is}
 use Rattle.registers.proofs.Shifts.{Shift, times-keeps}
 use Rattle.leaps.specs.declared.Leapt.{Leapt}
 use Rattle.leaps.specs.Leaps.{leapIf, leaps, leapByTable, leapBy, Within}

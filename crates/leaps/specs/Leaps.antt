@@ -26,6 +26,7 @@ pub record Within (stages digits : ℕ) (from : Leapt) (phase : ℕ) : Type 0 wh
 abbrev pub rowApplied : List ℕ → Leapt → Leapt
 rowApplied row from = record { register = combine row (from .register); count = from .count + 1 }
 
+-- room for one more: above `Within`'s bound by far more than the rows of a leap
 pub record Room (from : Leapt) : Type 0 where
   pub count-in : from .count < 2 ^ 17
 

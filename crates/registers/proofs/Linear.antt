@@ -1,17 +1,18 @@
 -- Functions that are linear over `bitXor`, whatever the width of their numbers.
 --     Linear       f takes 0 to 0, and a sum bit by bit modulo 2 to the sum
---     combine-is   the row of f at the powers of two, applied to a number, is f of the number
+--     columns      the row of f: its values at the powers of two
+--     combine-is   the row of f, applied to a number, is f of the number
 --     agree        two linear functions that agree at the powers of two agree
 -- Assumes nothing.
 use mathlib.Core.Path.{_≡_, sym, ap, ap₂, _∙_}
-use mathlib.Core.List.{List}
+use mathlib.Core.List.{List, [], _∷_}
 use Prim.Native.Nat.{ℕ, zero, suc, _+_, _*_, _/_, _%_, _^_, _<_}
 use native.Mathlib.Nat.{zero-mul, one-mul, mul-one, pow-suc, div-add-mod'}
 use native.Mathlib.Omega.{arith}
 use lib.Arith.{lt-one}
 use lib.Pow.{pow-pos}
 use lib.Bits.{bitXor, xor-comm, xor-self, xor-zero-r, xor-shifted}
-use Rattle.registers.specs.Row.{combine, columns}
+use Rattle.registers.specs.Row.{combine}
 use Rattle.registers.proofs.Xor.{digit, low}
 
 pub record Linear (f : ℕ → ℕ) : Type 0 where
@@ -55,6 +56,11 @@ parts x i =
     below = digit (λ (d : ℕ). d * 2 ^ i < 2 ^ suc i) (omega (arith, pow-pos i)) (omega (arith, pow-pos i, pow-suc 2 i)) (x % 2) (low x)
 
 -- ---- rows
+
+-- f at n powers of two, from 2 ^ i on
+unfoldable pub columns : (ℕ → ℕ) → ℕ → ℕ → List ℕ
+columns f i zero = []
+columns f i (suc n) = f (2 ^ i) ∷ columns f (suc i) n
 
 pub half-lt : {x : ℕ} (k : ℕ) → x < 2 ^ suc k → x / 2 < 2 ^ k
 half-lt {x} k h = omega (arith, pow-suc 2 k)

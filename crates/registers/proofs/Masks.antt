@@ -12,9 +12,8 @@ use lib.Bits.{bitXor, bitAnd, and-shr, and-mod, xor-shr, xor-mod}
 use lib.Count.{ones, onesIn, ones-step}
 use lib.Dec.{lit<}
 use Rattle.registers.specs.Register.{sumOf, shift}
-use Rattle.registers.specs.Row.{columns}
 use Rattle.registers.proofs.Xor.{digit, low, by-digits, xor-half, xor-low, xor4}
-use Rattle.registers.proofs.Linear.{Linear, after, agree}
+use Rattle.registers.proofs.Linear.{columns, Linear, after, agree}
 use Rattle.registers.proofs.Below.{equal-at}
 use Rattle.registers.proofs.Shifts.{sum-digit, sumOf-linear}
 

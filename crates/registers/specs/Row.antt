@@ -1,6 +1,6 @@
 -- A row of numbers applied to a register: what one leap does.
 -- Assumes nothing.
-use Prim.Native.Nat.{ℕ, zero, suc, _*_, _/_, _%_, _^_}
+use Prim.Native.Nat.{ℕ, _*_, _/_, _%_}
 use mathlib.Core.List.{List, [], _∷_}
 use lib.Bits.{bitXor}
 
@@ -8,8 +8,3 @@ use lib.Bits.{bitXor}
 unfoldable pub combine : List ℕ → ℕ → ℕ
 combine [] r = 0
 combine (c ∷ cs) r = bitXor (r % 2 * c) (combine cs (r / 2))
-
--- f at n powers of two, from 2 ^ i on
-unfoldable pub columns : (ℕ → ℕ) → ℕ → ℕ → List ℕ
-columns f i zero = []
-columns f i (suc n) = f (2 ^ i) ∷ columns f (suc i) n

@@ -2,7 +2,8 @@
 -- Assumes nothing.
 use borrow.Author.Needs.{needs}
 use Rattle.registers.specs.Register.{shiftL2}
-use Rattle.registers.specs.Row.{combine, columns}
+use Rattle.registers.specs.Row.{combine}
+use Rattle.registers.proofs.Linear.{columns}
 use Rattle.registers.proofs.Shifts.{l2}
 use Rattle.leaps.proofs.LawOfLeaps.{by-table}
 use Rattle.leaps.proofs.leap_l2.Statement.{statement}

@@ -4,7 +4,7 @@ use mathlib.Core.Path.{refl, _∙_}
 use lib.Count.{ones, onesIn}
 use borrow.Author.Needs.{needs}
 use Rattle.registers.specs.Register.{stage, sumOf, tapsG2}
-use Rattle.registers.specs.Row.{columns}
+use Rattle.registers.proofs.Linear.{columns}
 use Rattle.registers.proofs.Masks.{masked}
 use Rattle.registers.proofs.shift_g2.Statement.{statement}
 use Rattle.registers.proofs.shift_g2.Tie as tie
