@@ -2,6 +2,7 @@
 // once, in the function that reads a PRN's entry.
 ghost use mathlib.Core.Path.{_≡_};
 ghost use Rattle.starts.specs.Starts.{Listed, startG1, startG2, startXA, startX1A, startX1B, startX2A, startX2B};
+ghost use Rattle.starts.specs.Pairs.{pairsOf};
 ghost use Rattle.starts.specs.Starts.{stagesOf, startCM, startCL, startI5, startQ5};
 
 mod tables;
@@ -54,16 +55,30 @@ pub fn start_x2b() -> u32
     0b0101_0101_0100
 }
 
+// The pairs of stages of eight PRNs, from PRN 8 n + 1 on, in hexadecimal digits as document 01 lists them. They are needed at each C/A chip,
+// and numbers, unlike a table, cost nothing where they are named.
+fn pairs(n: u32) -> u64
+    ensures { λ r. ⌜ r ≡ pairsOf n ⌝ }
+{
+    match n {
+        0 => 0x26_37_48_59_19_2a_18_29,
+        1 => 0x3a_23_34_56_67_78_89_9a,
+        2 => 0x14_25_36_47_58_69_13_46,
+        3 => 0x57_68_79_8a_16_27_38_49,
+        _ => 0x5a_4a_17_28_4a_00_00_00,
+    }
+}
+
 // The two stages of G2 that the C/A code of a PRN adds to G1.
 pub fn stages_ca(prn: u32) -> Stages
     requires { ⌜ Listed 37 prn ⌝ }
     ensures { λ r. ⌜ r ≡ stagesOf prn ⌝ }
 {
-    let table = tables::CA_STAGES;
-    let at = (prn as usize - 1) * 2;
+    let n = prn - 1;
+    let pair = (pairs(n / 8) >> (56 - n % 8 * 8)) % 256;
     Stages {
-        first: table[at],
-        second: table[at + 1],
+        first: (pair / 16) as u32,
+        second: (pair % 16) as u32,
     }
 }
 

@@ -1,0 +1,207 @@
+-- The range law: an opened channel is in range, and a step keeps a channel in range, whatever its signal and PRN.
+--     opened-in   a channel is in range where it is opened
+--     step-in     a channel in range is in range one step on
+--     Sound k     what the constants of a generator have to be for that; SoundSignal s, those of a signal
+-- Assumes nothing.
+use Prim.Native.Nat.{ℕ, zero, suc, _+_, _-_, _^_, _≤_, _<_, zero-le}
+use mathlib.Core.Bool.{Bool, true, false, cond, _&&_}
+use mathlib.Core.Path.{_≡_, refl}
+use mathlib.Core.List.{List, [], _∷_}
+use native.Mathlib.Nat.{mod-lt}
+use native.Mathlib.Omega.{arith}
+use lib.Dec.{leb, eqb, lit<, lit≤}
+use lib.ListN.{getD}
+use lib.Pow.{pow-pos}
+use borrow.Author.Tests.{leb-true, le-leb, eqb-false}
+use Rattle.registers.proofs.Shifts.{Shift}
+use Rattle.registers.proofs.Shifts as shifts
+use Rattle.starts.specs.Starts.{Listed, startCM, startCL, startI5, startQ5}
+use Rattle.starts.proofs.Ranges.{start-cm-in, start-cl-in, start-i5-in, start-q5-in}
+use Rattle.machine.specs.Generators.{Kind, fresh, upTo, stepIn, stepGenerator, modeInRange, heldAt, heldAtEnd}
+use Rattle.machine.specs.Signals.{Signal, steady, cut, none, plain, g1, g2, x1a, x1b, x2a, x2b, cm, cl, xa, xb, signals, noSignal, signalOf, signalP}
+use Rattle.machine.specs.Machine.{returned, stepAs, step, openedAs, opened, inRange}
+use Rattle.machine.specs.Ranged.{RangedKind, RangedAs, Ranged}
+use Rattle.machine.specs.declared.Mode.{Mode}
+use Rattle.machine.specs.declared.Mode.the-variants.{Running, Held}
+use Rattle.machine.specs.declared.Generator.{Generator}
+use Rattle.machine.specs.declared.Channel.{Channel}
+use Rattle.machine.proofs.Tests.{both-left, both-right, both-true, chosen}
+use Rattle.machine.proofs.Ranges.{ranged, in-range}
+
+-- ---- one generator
+
+pub record Sound (k : Kind) : Type 0 where
+  pub shift-in : (r : ℕ) → r < 2 ^ k .width → k .shift r < 2 ^ k .width
+  pub start-in : k .start < 2 ^ k .width
+  pub arrival-in : (e : Bool) (p c : ℕ) → modeInRange (k .holds) (k .arrival e p c) ≡ true
+
+up-to-le : (highest n : ℕ) → n ≤ highest → upTo highest n ≤ highest
+up-to-le highest n h =
+    chosen (λ (m : ℕ). m ≤ highest) (eqb n highest) (λ e. zero-le)
+    (λ e. let ne : (n ≡ highest → ⊥) = eqb-false n highest e in omega arith)
+
+module _ (k : Kind) (sound : Sound k) where
+  pub fresh-in : (n : ℕ) → n ≤ k .highest → RangedKind k (fresh (k .start) n)
+  fresh-in n h = record { register-in = sound .start-in; phase-in = zero-le; cycles-in = h; mode-in = refl }
+
+  step-mode-in : (e : Bool) (m : Mode) (g : Generator) → g .mode ≡ m → RangedKind k g
+      → RangedKind k (stepIn m (k .shift (g .register)) (k .start) (k .last (g .cycles)) (k .highest) (k .arrival e (g .phase + 1) (g .cycles)) g)
+  step-mode-in e Running g q r =
+      chosen (RangedKind k) (eqb (g .phase) (k .last (g .cycles)))
+      (λ t. fresh-in (upTo (k .highest) (g .cycles)) (up-to-le (k .highest) (g .cycles) (r .cycles-in)))
+      (λ t.
+      let ne : (g .phase ≡ k .last (g .cycles) → ⊥) = eqb-false _ _ t in
+      record {
+        register-in = sound .shift-in (g .register) (r .register-in);
+        phase-in = omega arith;
+        cycles-in = r .cycles-in;
+        mode-in = sound .arrival-in e (g .phase + 1) (g .cycles);
+      })
+  step-mode-in e (Held h) g q r =
+      let m : k .holds && leb h 1069 ≡ true = rw q at (r .mode-in) in
+      let le : h ≤ 1069 = leb-true _ _ (both-right (k .holds) (leb h 1069) m) in
+      chosen (RangedKind k) (eqb h 0)
+      (λ t. fresh-in 0 zero-le)
+      (λ t.
+      record {
+        register-in = r .register-in;
+        phase-in = r .phase-in;
+        cycles-in = r .cycles-in;
+        mode-in = both-true (both-left (k .holds) (leb h 1069) m) (le-leb (h - 1) 1069 (omega arith));
+      })
+
+  pub generator-in : (e : Bool) (g : Generator) → RangedKind k g → RangedKind k (stepGenerator k e g)
+  generator-in e g r = step-mode-in e (g .mode) g refl r
+
+-- ---- the generators
+
+held-at-in : (p₀ c₀ n p c : ℕ) → n ≤ 1069 → modeInRange true (heldAt p₀ c₀ n p c) ≡ true
+held-at-in p₀ c₀ n p c h =
+    chosen (λ (m : Mode). modeInRange true m ≡ true) (eqb p p₀ && eqb c c₀) (λ t. le-leb n 1069 h) (λ t. refl)
+
+held-at-end-in : (p₀ c₀ n m : ℕ) (e : Bool) (p c : ℕ) → n ≤ 1069 → m ≤ 1069 → modeInRange true (heldAtEnd p₀ c₀ n m e p c) ≡ true
+held-at-end-in p₀ c₀ n m e p c h h′ =
+    chosen (λ (x : Mode). modeInRange true x ≡ true) e
+    (λ t. chosen (λ (x : Mode). modeInRange true x ≡ true) (eqb p p₀) (λ u. le-leb m 1069 h′) (λ u. refl))
+    (λ t. held-at-in p₀ c₀ n p c h)
+
+steady-sound : (s : ℕ) {f : ℕ → ℕ} (start last highest : ℕ) → Shift s f → start < 2 ^ s → Sound (steady s f start last highest)
+steady-sound s start last highest f-in h = record { shift-in = f-in .keeps; start-in = h; arrival-in = λ e p c. refl }
+
+cut-sound : (s : ℕ) {f : ℕ → ℕ} (start last lastCut : ℕ) → Shift s f → start < 2 ^ s → Sound (cut s f start last lastCut)
+cut-sound s start last lastCut f-in h = record { shift-in = f-in .keeps; start-in = h; arrival-in = λ e p c. refl }
+
+none-sound : Sound none
+none-sound = record { shift-in = λ r h. lit< tt; start-in = lit< tt; arrival-in = λ e p c. refl }
+
+x1b-sound : Sound x1b
+x1b-sound =
+    record { shift-in = shifts.x1b .keeps; start-in = lit< tt; arrival-in = λ e p c. held-at-in 4092 3748 343 p c (lit≤ tt) }
+
+x2a-sound : Sound x2a
+x2a-sound =
+    record { shift-in = shifts.x2a .keeps; start-in = lit< tt; arrival-in = λ e p c. held-at-end-in 4091 3749 37 1069 e p c (lit≤ tt) (lit≤ tt) }
+
+x2b-sound : Sound x2b
+x2b-sound =
+    record { shift-in = shifts.x2b .keeps; start-in = lit< tt; arrival-in = λ e p c. held-at-end-in 4092 3748 380 965 e p c (lit≤ tt) (lit≤ tt) }
+
+-- ---- the signals
+
+pub record SoundSignal (s : Signal) : Type 0 where
+  pub line-sound : s .lineStart < 2 ^ s .lineBits
+  pub first-sound : Sound (s .first)
+  pub second-sound : Sound (s .second)
+  pub third-sound : Sound (s .third)
+  pub fourth-sound : Sound (s .fourth)
+
+plain-sound : (last : ℕ) {first second : Kind} (chip : Channel → ℕ) → Sound first → Sound second → SoundSignal (plain last first second chip)
+plain-sound last chip a b =
+    record { line-sound = lit< tt; first-sound = a; second-sound = b; third-sound = none-sound; fourth-sound = none-sound }
+
+p-sound : (prn : ℕ) → SoundSignal (signalP prn)
+p-sound prn =
+    record {
+      line-sound = lit< tt;
+      first-sound = steady-sound 12 _ _ _ shifts.x1a (lit< tt);
+      second-sound = x1b-sound;
+      third-sound = x2a-sound;
+      fourth-sound = x2b-sound;
+    }
+
+-- a fact of each signal of a list
+Each : List Signal → Type 0
+Each [] = Unit
+Each (s ∷ ss) = SoundSignal s × Each ss
+
+each-at : (l : List Signal) → Each l → (k : ℕ) → SoundSignal (getD l k noSignal)
+unfolding Each
+each-at [] all k = plain-sound 0 _ none-sound none-sound
+each-at (s ∷ ss) all zero = all .0
+each-at (s ∷ ss) all (suc k) = each-at ss (all .1) k
+
+pub sound-of : (n prn : ℕ) → SoundSignal (signalOf n prn)
+unfolding Each
+sound-of n prn =
+    each-at (signals prn)
+    (plain-sound _ _ (steady-sound 10 _ _ _ shifts.g1 (lit< tt)) (steady-sound 10 _ _ _ shifts.g2 (lit< tt)),
+    (p-sound prn,
+    (plain-sound _ _ (steady-sound 27 _ _ _ shifts.l2 (start-cm-in prn)) none-sound,
+    (plain-sound _ _ none-sound (steady-sound 27 _ _ _ shifts.l2 (start-cl-in prn)),
+    (plain-sound _ _ (cut-sound 13 _ _ _ shifts.xa (lit< tt)) (cut-sound 13 _ _ _ shifts.xb (start-i5-in prn)),
+    (plain-sound _ _ (cut-sound 13 _ _ _ shifts.xa (lit< tt)) (cut-sound 13 _ _ _ shifts.xb (start-q5-in prn)),
+    tt))))))
+    (n - 1)
+
+-- ---- the channel
+
+step-as-in : (s : Signal) (ch : Channel) → SoundSignal s → RangedAs s ch → RangedAs s (stepAs s ch)
+step-as-in s ch sound r =
+    record {
+      place-in = up-to-le (s .lastPlace) (ch .place) (r .place-in);
+      epoch-in =
+          chosen (λ (n : ℕ). n ≤ s .lastEpoch) (returned (ch .first) (stepGenerator (s .first) false (ch .first)))
+          (λ t. up-to-le (s .lastEpoch) (ch .epoch) (r .epoch-in))
+          (λ t. r .epoch-in);
+      delay-in = mod-lt _ (pow-pos (s .lineBits));
+      first-in = generator-in (s .first) (sound .first-sound) _ (ch .first) (r .first-in);
+      second-in = generator-in (s .second) (sound .second-sound) _ (ch .second) (r .second-in);
+      third-in = generator-in (s .third) (sound .third-sound) _ (ch .third) (r .third-in);
+      fourth-in = generator-in (s .fourth) (sound .fourth-sound) _ (ch .fourth) (r .fourth-in);
+    }
+
+opened-as-in : (s : Signal) (n prn : ℕ) → SoundSignal s → RangedAs s (openedAs s n prn)
+opened-as-in s n prn sound =
+    record {
+      place-in = zero-le;
+      epoch-in = zero-le;
+      delay-in = sound .line-sound;
+      first-in = fresh-in (s .first) (sound .first-sound) 0 zero-le;
+      second-in = fresh-in (s .second) (sound .second-sound) 0 zero-le;
+      third-in = fresh-in (s .third) (sound .third-sound) 0 zero-le;
+      fourth-in = fresh-in (s .fourth) (sound .fourth-sound) 0 zero-le;
+    }
+
+pub step-ranged : (ch : Channel) → Ranged ch → Ranged (step ch)
+unfolding step
+step-ranged ch r =
+    record {
+      signal-first = r .signal-first;
+      signal-last = r .signal-last;
+      prn-in = r .prn-in;
+      fields-in = step-as-in (signalOf (ch .signal) (ch .prn)) ch (sound-of (ch .signal) (ch .prn)) (r .fields-in);
+    }
+
+pub step-in : (ch : Channel) → inRange ch ≡ true → inRange (step ch) ≡ true
+step-in ch e = in-range (step ch) (step-ranged ch (ranged ch e))
+
+pub opened-in : (signal prn : ℕ) → 1 ≤ signal → signal ≤ 6 → Listed 37 prn → inRange (opened signal prn) ≡ true
+unfolding opened
+opened-in signal prn first last listed =
+    in-range (opened signal prn)
+    (record {
+      signal-first = first;
+      signal-last = last;
+      prn-in = listed;
+      fields-in = opened-as-in (signalOf signal prn) signal prn (sound-of signal prn);
+    })
