@@ -2,3 +2,4 @@ pub mod Tests
 pub mod Ranges
 pub mod RangeLaw
 pub mod Numbered
+pub mod Running

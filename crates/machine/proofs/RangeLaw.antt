@@ -143,14 +143,25 @@ each-at (s ∷ ss) all (suc k) = each-at ss (all .1) k
 pub sound-of : (n prn : ℕ) → SoundSignal (signalOf n prn)
 unfolding Each
 sound-of n prn =
-    each-at (signals prn)
-    (plain-sound _ _ (steady-sound 10 _ _ _ shifts.g1 (lit< tt)) (steady-sound 10 _ _ _ shifts.g2 (lit< tt)),
-    (p-sound prn,
-    (plain-sound _ _ (steady-sound 27 _ _ _ shifts.l2 (start-cm-in prn)) none-sound,
-    (plain-sound _ _ none-sound (steady-sound 27 _ _ _ shifts.l2 (start-cl-in prn)),
-    (plain-sound _ _ (cut-sound 13 _ _ _ shifts.xa (lit< tt)) (cut-sound 13 _ _ _ shifts.xb (start-i5-in prn)),
-    (plain-sound _ _ (cut-sound 13 _ _ _ shifts.xa (lit< tt)) (cut-sound 13 _ _ _ shifts.xb (start-q5-in prn)),
-    tt))))))
+    each-at (signals prn) (
+      plain-sound _ _ (steady-sound 10 _ _ _ shifts.g1 (lit< tt)) (steady-sound 10 _ _ _ shifts.g2 (lit< tt)),
+      (
+        p-sound prn,
+        (
+          plain-sound _ _ (steady-sound 27 _ _ _ shifts.l2 (start-cm-in prn)) none-sound,
+          (
+            plain-sound _ _ none-sound (steady-sound 27 _ _ _ shifts.l2 (start-cl-in prn)),
+            (
+              plain-sound _ _ (cut-sound 13 _ _ _ shifts.xa (lit< tt)) (cut-sound 13 _ _ _ shifts.xb (start-i5-in prn)),
+              (
+                plain-sound _ _ (cut-sound 13 _ _ _ shifts.xa (lit< tt)) (cut-sound 13 _ _ _ shifts.xb (start-q5-in prn)),
+                tt,
+              ),
+            ),
+          ),
+        ),
+      ),
+    )
     (n - 1)
 
 -- ---- the channel

@@ -1,9 +1,4 @@
 // The channel of the stepped machine, by value. `specs/` says what it is: Generators, Signals and Machine, in this order.
-ghost use mathlib.Core.Path.{_≡_};
-ghost use Prim.Native.Nat.{_<_, _^_};
-ghost use Rattle.machine.specs.declared.Mode.the-variants.{Running};
-ghost use Rattle.machine.specs.Generators.{fresh, restarted, moved, stepIn};
-
 // Running, or held with a number of chips still to repeat.
 pub enum Mode {
     Running,
@@ -31,3 +26,45 @@ pub struct Channel {
     pub third: Generator,
     pub fourth: Generator,
 }
+
+// The week's last place, W - 1.
+pub const LAST_PLACE_CA: u64 = 618_710_399_999;
+
+pub const LAST_PLACE_P: u64 = 6_187_103_999_999;
+
+pub const LAST_PLACE_L2: u64 = 309_355_199_999;
+
+pub const LAST_PLACE_L5: u64 = 6_187_103_999_999;
+
+// The week's last epoch of 1.5 seconds.
+pub const LAST_EPOCH: u32 = 403_199;
+
+// One past the highest number that the delay line holds, 2 to its 37 bits.
+pub const LINE_LIMIT: u64 = 137_438_953_472;
+
+// The last phase of a cycle, and the highest number of cycles finished where a generator counts them.
+pub const LAST_G: u32 = 1_022;
+
+pub const LAST_X1A: u32 = 4_091;
+
+pub const HIGHEST_X1A: u32 = 3_749;
+
+pub const LAST_X1B: u32 = 4_092;
+
+pub const HIGHEST_X1B: u32 = 3_748;
+
+pub const LAST_X2A: u32 = 4_091;
+
+pub const HIGHEST_X2A: u32 = 3_749;
+
+pub const LAST_X2B: u32 = 4_092;
+
+pub const HIGHEST_X2B: u32 = 3_748;
+
+pub const LAST_CM: u32 = 10_229;
+
+pub const LAST_CL: u32 = 767_249;
+
+pub const HIGHEST_XA: u32 = 1;
+
+pub const HIGHEST_XB: u32 = 1;

@@ -1,0 +1,53 @@
+-- Generators that are never held: their step by its two cases, and a generator that the signal lacks.
+-- Assumes nothing.
+use Prim.Native.Nat.{ℕ, _+_, _≤_}
+use mathlib.Core.Bool.{Bool, true, false, cond}
+use mathlib.Core.Path.{_≡_, refl}
+use native.Mathlib.Omega.{arith}
+use lib.Dec.{eqb}
+use borrow.Author.Tests.{eq-eqb, ne-eqb}
+use Rattle.machine.specs.Generators.{Kind, fresh, restarted, moved, stepIn, stepGenerator, modeInRange}
+use Rattle.machine.specs.Signals.{none}
+use Rattle.machine.specs.Ranged.{RangedKind}
+use Rattle.machine.specs.declared.Mode.{Mode}
+use Rattle.machine.specs.declared.Mode.the-variants.{Running, Held}
+use Rattle.machine.specs.declared.Generator.{Generator}
+use Rattle.machine.proofs.Tests.{chosen}
+
+pub running : (m : Mode) → modeInRange false m ≡ true → m ≡ Running
+running Running h = refl
+running (Held n) h = cc
+
+module _ (k : Kind) (e : Bool) (g : Generator) (runs : modeInRange false (g .mode) ≡ true) where
+  pub steps-running : k .arrival e (g .phase + 1) (g .cycles) ≡ Running
+      → stepIn Running (k .shift (g .register)) (k .start) (k .last (g .cycles)) (k .highest) Running g ≡ stepGenerator k e g
+  steps-running arrives = rw (running (g .mode) runs, arrives)
+
+  -- at the end of a cycle
+  pub steps-ended : g .phase ≡ k .last (g .cycles) → restarted (k .start) (k .highest) g ≡ stepGenerator k e g
+  steps-ended ends = rw (running (g .mode) runs, eq-eqb _ _ ends)
+
+  -- before it
+  pub steps-moved : k .arrival e (g .phase + 1) (g .cycles) ≡ Running → (g .phase ≡ k .last (g .cycles) → ⊥)
+      → moved (k .shift (g .register)) Running g ≡ stepGenerator k e g
+  steps-moved arrives goes-on = rw (running (g .mode) runs, arrives, ne-eqb _ _ goes-on)
+
+-- a phase is never past the longer cycle
+pub cut-phase : (p c last lastCut : ℕ) → lastCut ≤ last → p ≤ cond (eqb c 1) lastCut last → p ≤ last
+cut-phase p c last lastCut h = chosen (λ (n : ℕ). p ≤ n → p ≤ last) (eqb c 1) (λ t q. omega arith) (λ t q. q)
+
+-- ---- a generator that the signal lacks
+
+fields-are : (a b c : ℕ) (m : Mode) → a ≡ 0 → b ≡ 0 → c ≡ 0 → m ≡ Running
+    → _≡_ {A = Generator} (record { register = a; phase = b; cycles = c; mode = m }) (fresh 0 0)
+fields-are a b c m p q r s = rw (p, q, r, s)
+
+-- it is 0 and running
+pub lacking : (g : Generator) → RangedKind none g → g ≡ fresh 0 0
+lacking g r =
+    fields-are (g .register) (g .phase) (g .cycles) (g .mode)
+    (omega (arith, r .register-in)) (omega (arith, r .phase-in)) (omega (arith, r .cycles-in)) (running (g .mode) (r .mode-in))
+
+-- and a step leaves it as it was
+pub lacking-stays : (e : Bool) (g : Generator) → RangedKind none g → g ≡ stepGenerator none e g
+lacking-stays e g r = rw (lacking g r)
