@@ -1,0 +1,142 @@
+// Refusal 4: whether a channel's fields are in their ranges. Tests are joined by `&`, so that no branch is left.
+ghost use mathlib.Core.Path.{_≡_};
+ghost use mathlib.Core.Bool.{false};
+ghost use Rattle.machine.specs.Generators.{modeInRange, fieldsInRange};
+ghost use Rattle.machine.specs.Signals.{signalCA, signalP, signalCM, signalCL, signalI5};
+ghost use Rattle.machine.specs.Machine.{inRangeAs, inRange};
+ghost use Rattle.ranges.specs.Plain.{plainInRange, numberedInRange};
+use machine::Channel;
+use machine::Generator;
+use machine::Mode;
+
+fn mode_in_range(mode: Mode, holds: bool) -> bool
+    ensures { λ r. ⌜ r ≡ modeInRange holds mode ⌝ }
+{
+    match mode {
+        Mode::Running => true,
+        Mode::Held(h) => holds & (h <= 1_069),
+    }
+}
+
+// A generator whose register is below a limit, whose counts are at most so high, and which may be held or not.
+fn generator_in_range(g: Generator, limit: u32, last: u32, highest: u32, holds: bool) -> bool
+    ensures { λ r. ⌜ r ≡ fieldsInRange limit last highest holds g ⌝ }
+{
+    let mode = g.mode;
+    (g.register < limit) & (g.phase <= last) & (g.cycles <= highest) & mode_in_range(mode, holds)
+}
+
+// A generator that the signal lacks.
+fn lacking(g: Generator) -> bool
+    ensures { λ r. ⌜ r ≡ fieldsInRange 1 0 0 false g ⌝ }
+{
+    generator_in_range(g, 1, 0, 0, false)
+}
+
+// A channel of a signal with at most two generators, given their tests.
+fn plain_in_range(ch: Channel, last_place: u64, first: bool, second: bool) -> bool
+    ensures { λ r. ⌜ r ≡ plainInRange «last_place» first second ch ⌝ }
+{
+    (ch.place <= last_place)
+        & (ch.epoch <= 0)
+        & (ch.delay < 1)
+        & first
+        & second
+        & lacking(ch.third)
+        & lacking(ch.fourth)
+}
+
+fn ca_in_range(ch: Channel) -> bool
+    ensures { λ r. ⌜ r ≡ inRangeAs (signalCA (ch .prn)) ch ⌝ }
+{
+    let first = generator_in_range(ch.first, 1_024, machine::LAST_G, 0, false);
+    let second = generator_in_range(ch.second, 1_024, machine::LAST_G, 0, false);
+    plain_in_range(ch, machine::LAST_PLACE_CA, first, second)
+}
+
+fn p_in_range(ch: Channel) -> bool
+    ensures { λ r. ⌜ r ≡ inRangeAs (signalP (ch .prn)) ch ⌝ }
+{
+    let x1a = generator_in_range(
+        ch.first,
+        4_096,
+        machine::LAST_X1A,
+        machine::HIGHEST_X1A,
+        false,
+    );
+    let x1b = generator_in_range(
+        ch.second,
+        4_096,
+        machine::LAST_X1B,
+        machine::HIGHEST_X1B,
+        true,
+    );
+    let x2a = generator_in_range(
+        ch.third,
+        4_096,
+        machine::LAST_X2A,
+        machine::HIGHEST_X2A,
+        true,
+    );
+    let x2b = generator_in_range(
+        ch.fourth,
+        4_096,
+        machine::LAST_X2B,
+        machine::HIGHEST_X2B,
+        true,
+    );
+    (ch.place <= machine::LAST_PLACE_P)
+        & (ch.epoch <= machine::LAST_EPOCH)
+        & (ch.delay < machine::LINE_LIMIT)
+        & x1a
+        & x1b
+        & x2a
+        & x2b
+}
+
+fn cm_in_range(ch: Channel) -> bool
+    ensures { λ r. ⌜ r ≡ inRangeAs (signalCM (ch .prn)) ch ⌝ }
+{
+    let first = generator_in_range(ch.first, 134_217_728, machine::LAST_CM, 0, false);
+    plain_in_range(ch, machine::LAST_PLACE_L2, first, lacking(ch.second))
+}
+
+fn cl_in_range(ch: Channel) -> bool
+    ensures { λ r. ⌜ r ≡ inRangeAs (signalCL (ch .prn)) ch ⌝ }
+{
+    let second = generator_in_range(ch.second, 134_217_728, machine::LAST_CL, 0, false);
+    plain_in_range(ch, machine::LAST_PLACE_L2, lacking(ch.first), second)
+}
+
+// I5 and Q5, whose ranges are the same.
+fn l5_in_range(ch: Channel) -> bool
+    ensures { λ r. ⌜ r ≡ inRangeAs (signalI5 (ch .prn)) ch ⌝ }
+{
+    let last_xa = generators::last_xa(ch.first.cycles);
+    let last_xb = generators::last_xb(ch.second.cycles);
+    let first = generator_in_range(ch.first, 8_192, last_xa, machine::HIGHEST_XA, false);
+    let second = generator_in_range(ch.second, 8_192, last_xb, machine::HIGHEST_XB, false);
+    plain_in_range(ch, machine::LAST_PLACE_L5, first, second)
+}
+
+// The signal's number and the fields that its signal has and lacks.
+fn numbered_in_range(ch: Channel) -> bool
+    ensures { λ r. ⌜ r ≡ numberedInRange ch ⌝ }
+{
+    let signal = ch.signal;
+    match signal {
+        1 => ca_in_range(ch),
+        2 => p_in_range(ch),
+        3 => cm_in_range(ch),
+        4 => cl_in_range(ch),
+        5 => l5_in_range(ch),
+        6 => l5_in_range(ch),
+        _ => false,
+    }
+}
+
+pub fn in_range(ch: Channel) -> bool
+    ensures { λ r. ⌜ r ≡ inRange ch ⌝ }
+{
+    (1 <= ch.prn) & (ch.prn <= 37) & numbered_in_range(ch)
+}
