@@ -1,8 +1,12 @@
--- The signal that a number names.
+-- The signal that a number names, and a channel's step, chip and ranges by that signal.
 -- Assumes nothing.
 use Prim.Native.Nat.{ℕ}
-use mathlib.Core.Path.{_≡_, refl}
-use Rattle.machine.specs.Signals.{signalOf, signalCA, signalP, signalCM, signalCL, signalI5, signalQ5}
+use mathlib.Core.Path.{_≡_, ap, subst}
+use native.Mathlib.Omega.{arith}
+use Rattle.machine.specs.Signals.{Signal, signalOf, signalCA, signalP, signalCM, signalCL, signalI5, signalQ5}
+use Rattle.machine.specs.Machine.{stepAs, step, chip, openedAs, opened}
+use Rattle.machine.specs.Ranged.{RangedAs, Ranged}
+use Rattle.machine.specs.declared.Channel.{Channel}
 
 module _ (n prn : ℕ) where
   pub is-ca : n ≡ 1 → signalOf n prn ≡ signalCA prn
@@ -22,3 +26,24 @@ module _ (n prn : ℕ) where
 
   pub is-q5 : n ≡ 6 → signalOf n prn ≡ signalQ5 prn
   is-q5 e = rw e
+
+-- the number that is none of the first five
+pub is-sixth : (ch : Channel) → Ranged ch
+    → (ch .signal ≡ 1 → ⊥) → (ch .signal ≡ 2 → ⊥) → (ch .signal ≡ 3 → ⊥) → (ch .signal ≡ 4 → ⊥) → (ch .signal ≡ 5 → ⊥) → ch .signal ≡ 6
+is-sixth ch r n1 n2 n3 n4 n5 = omega (arith, r .signal-first, r .signal-last)
+
+module _ (ch : Channel) {s : Signal} (named : signalOf (ch .signal) (ch .prn) ≡ s) where
+  pub fields-as : Ranged ch → RangedAs s ch
+  fields-as r = subst (λ (x : Signal). RangedAs x ch) named (r .fields-in)
+
+  pub step-is : step ch ≡ stepAs s ch
+  unfolding step
+  step-is = ap (λ (x : Signal). stepAs x ch) named
+
+  pub chip-is : chip ch ≡ s .chip ch
+  unfolding chip
+  chip-is = ap (λ (x : Signal). x .chip ch) named
+
+pub opened-is : (n prn : ℕ) {s : Signal} → signalOf n prn ≡ s → opened n prn ≡ openedAs s n prn
+unfolding opened
+opened-is n prn named = ap (λ (x : Signal). openedAs x n prn) named

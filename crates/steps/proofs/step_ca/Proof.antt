@@ -1,0 +1,34 @@
+use Rattle.steps.proofs.PlainSteps.{plain-is}
+use Rattle.machine.specs.Signals.{g1, g2, signalCA}
+use mathlib.Core.Path.{_∙_}
+use borrow.Author.Needs.{needs}
+use Rattle.steps.proofs.step_ca.Statement.{statement}
+use Rattle.steps.proofs.step_ca.Tie as tie
+use Rattle.steps.proofs.step_ca.Reads as reads
+use Rattle.steps.proofs.step_ca.Lts as lts
+use Rattle.generators.proofs.step_g1.Reads as step-g1-reads
+use Rattle.generators.proofs.step_g2.Reads as step-g2-reads
+use Rattle.steps.proofs.plain_step.Reads as plain-step-reads
+
+-- src/lib.rt:164:9
+step-g1-requires : tie.Need-step-g1-requires
+step-g1-requires c κs = search needs
+
+-- src/lib.rt:165:9
+step-g2-requires : tie.Need-step-g2-requires
+step-g2-requires c κs = search needs
+
+-- src/lib.rt:166:5
+plain-step-requires : tie.Need-plain-step-requires
+plain-step-requires c κs = search needs
+
+-- src/lib.rt:160:1
+returns : tie.Need-returns
+returns c =
+    let start = c .before .before .before in
+    let ch = start .args .ch in
+    c .plain-step .ensures
+    ∙ plain-is 618710399999 g1 g2 (signalCA (ch .prn) .chip) _ _ ch (start .pre) (c .before .before .step-g1 .ensures) (λ e. c .before .step-g2 .ensures)
+
+pub step-ca-spec : {M : Type 1} → statement M
+step-ca-spec = tie.close (tie.spec step-g1-requires step-g2-requires plain-step-requires returns)

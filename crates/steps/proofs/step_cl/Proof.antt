@@ -1,0 +1,32 @@
+use Rattle.steps.proofs.PlainSteps.{plain-is}
+use Rattle.machine.proofs.Running.{lacking-stays}
+use Rattle.machine.specs.Signals.{none, cl, chipCL}
+use mathlib.Core.Bool.{false}
+use mathlib.Core.Path.{_∙_}
+use borrow.Author.Needs.{needs}
+use Rattle.steps.proofs.step_cl.Statement.{statement}
+use Rattle.steps.proofs.step_cl.Tie as tie
+use Rattle.steps.proofs.step_cl.Reads as reads
+use Rattle.steps.proofs.step_cl.Lts as lts
+use Rattle.generators.proofs.step_cl.Reads as step-cl-reads
+use Rattle.steps.proofs.plain_step.Reads as plain-step-reads
+
+-- src/lib.rt:185:9
+step-cl-requires : tie.Need-step-cl-requires
+step-cl-requires c κs = search needs
+
+-- src/lib.rt:186:5
+plain-step-requires : tie.Need-plain-step-requires
+plain-step-requires c κs = search needs
+
+-- src/lib.rt:179:1
+returns : tie.Need-returns
+returns c =
+    let start = c .before .before .before in
+    let ch = start .args .ch in
+    let ok = start .pre .1 in
+    c .plain-step .ensures
+    ∙ plain-is 309355199999 none (cl (ch .prn)) chipCL _ _ ch ok (lacking-stays false (ch .first) (ok .first-in)) (λ e. c .before .step-cl .ensures)
+
+pub step-cl-spec : {M : Type 1} → statement M
+step-cl-spec = tie.close (tie.spec step-cl-requires plain-step-requires returns)
