@@ -1,6 +1,6 @@
 -- The signal that a number names, and a channel's step, chip and ranges by that signal.
 -- Assumes nothing.
-use Prim.Native.Nat.{ℕ}
+use Prim.Native.Nat.{ℕ, _≤_}
 use mathlib.Core.Path.{_≡_, ap, subst}
 use native.Mathlib.Omega.{arith}
 use Rattle.machine.specs.Signals.{Signal, signalOf, signalCA, signalP, signalCM, signalCL, signalI5, signalQ5}
@@ -28,9 +28,8 @@ module _ (n prn : ℕ) where
   is-q5 e = rw e
 
 -- the number that is none of the first five
-pub is-sixth : (ch : Channel) → Ranged ch
-    → (ch .signal ≡ 1 → ⊥) → (ch .signal ≡ 2 → ⊥) → (ch .signal ≡ 3 → ⊥) → (ch .signal ≡ 4 → ⊥) → (ch .signal ≡ 5 → ⊥) → ch .signal ≡ 6
-is-sixth ch r n1 n2 n3 n4 n5 = omega (arith, r .signal-first, r .signal-last)
+pub is-sixth : (n : ℕ) → 1 ≤ n → n ≤ 6 → (n ≡ 1 → ⊥) → (n ≡ 2 → ⊥) → (n ≡ 3 → ⊥) → (n ≡ 4 → ⊥) → (n ≡ 5 → ⊥) → n ≡ 6
+is-sixth n first last n1 n2 n3 n4 n5 = omega arith
 
 module _ (ch : Channel) {s : Signal} (named : signalOf (ch .signal) (ch .prn) ≡ s) where
   pub fields-as : Ranged ch → RangedAs s ch

@@ -79,16 +79,21 @@ in-range-as s ch r =
 between : (low high n : ℕ) → leb low n && leb n high ≡ true → (low ≤ n) × (n ≤ high)
 between low high n e = (leb-true _ _ (both-left (leb low n) (leb n high) e), leb-true _ _ (both-right (leb low n) (leb n high) e))
 
+pub signal-in : (n : ℕ) → isSignal n ≡ true → (1 ≤ n) × (n ≤ 6)
+signal-in n e = between 1 6 n e
+
+pub prn-in : (n : ℕ) → isPrn n ≡ true → Listed 37 n
+prn-in n e = record { first = between 1 37 n e .0; last = between 1 37 n e .1 }
+
 pub ranged : (ch : Channel) → inRange ch ≡ true → Ranged ch
 unfolding inRange
 ranged ch e =
     let named = both-left (isSignal (ch .signal) && isPrn (ch .prn)) (inRangeAs (signalOf (ch .signal) (ch .prn)) ch) e in
-    let signal = between 1 6 (ch .signal) (both-left (isSignal (ch .signal)) (isPrn (ch .prn)) named) in
-    let prn = between 1 37 (ch .prn) (both-right (isSignal (ch .signal)) (isPrn (ch .prn)) named) in
+    let signal = signal-in (ch .signal) (both-left (isSignal (ch .signal)) (isPrn (ch .prn)) named) in
     record {
       signal-first = signal .0;
       signal-last = signal .1;
-      prn-in = record { first = prn .0; last = prn .1 };
+      prn-in = prn-in (ch .prn) (both-right (isSignal (ch .signal)) (isPrn (ch .prn)) named);
       fields-in =
           ranged-as (signalOf (ch .signal) (ch .prn)) ch
           (both-right (isSignal (ch .signal) && isPrn (ch .prn)) (inRangeAs (signalOf (ch .signal) (ch .prn)) ch) e);

@@ -68,20 +68,24 @@ chips (suc n) ch = chip ch ∷ chips n (step ch)
 
 -- ---- open
 
--- "At place 0 registers are at their starts, all counts are 0, all run, and P's delay line is all ones."
-abbrev pub openedAs : Signal → ℕ → ℕ → Channel
-openedAs s signal prn =
+-- "At place 0 registers are at their starts, all counts are 0, all run": given the delay line and the starts of the four generators
+abbrev pub atZero : ℕ → ℕ → ℕ → ℕ → ℕ → ℕ → ℕ → Channel
+atZero signal prn line first second third fourth =
     record {
       signal = signal;
       prn = prn;
       place = 0;
       epoch = 0;
-      delay = s .lineStart;
-      first = fresh (s .first .start) 0;
-      second = fresh (s .second .start) 0;
-      third = fresh (s .third .start) 0;
-      fourth = fresh (s .fourth .start) 0;
+      delay = line;
+      first = fresh first 0;
+      second = fresh second 0;
+      third = fresh third 0;
+      fourth = fresh fourth 0;
     }
+
+-- ".. and P's delay line is all ones."
+abbrev pub openedAs : Signal → ℕ → ℕ → Channel
+openedAs s signal prn = atZero signal prn (s .lineStart) (s .first .start) (s .second .start) (s .third .start) (s .fourth .start)
 
 unfoldable pub opened : ℕ → ℕ → Channel
 opened signal prn = openedAs (signalOf signal prn) signal prn

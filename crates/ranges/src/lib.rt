@@ -1,13 +1,29 @@
-// Refusal 4: whether a channel's fields are in their ranges. Tests are joined by `&`, so that no branch is left.
+// The ranges of signals and PRNs, and refusal 4: whether a channel's fields are in theirs. Tests are joined by `&`, so that no branch is left.
 ghost use mathlib.Core.Path.{_≡_};
 ghost use mathlib.Core.Bool.{false};
 ghost use Rattle.machine.specs.Generators.{modeInRange, fieldsInRange};
 ghost use Rattle.machine.specs.Signals.{signalCA, signalP, signalCM, signalCL, signalI5};
-ghost use Rattle.machine.specs.Machine.{inRangeAs, inRange};
+ghost use Rattle.machine.specs.Machine.{isSignal, isPrn, inRangeAs, inRange};
 ghost use Rattle.ranges.specs.Plain.{plainInRange, numberedInRange};
 use machine::Channel;
 use machine::Generator;
 use machine::Mode;
+
+// "Signal not 1 to 6", refusal 1, is the opposite.
+pub fn is_signal(n: u64) -> bool
+    ensures { λ r. ⌜ r ≡ isSignal n ⌝ }
+{
+    (1 <= n) & (n <= 6)
+}
+
+// "PRN not 1 to 37", refusal 2, is the opposite.
+pub fn is_prn(n: u64) -> bool
+    ensures { λ r. ⌜ r ≡ isPrn n ⌝ }
+{
+    (1 <= n) & (n <= 37)
+}
+
+// ---- refusal 4, of a generator
 
 fn mode_in_range(mode: Mode, holds: bool) -> bool
     ensures { λ r. ⌜ r ≡ modeInRange holds mode ⌝ }
@@ -32,6 +48,8 @@ fn lacking(g: Generator) -> bool
 {
     generator_in_range(g, 1, 0, 0, false)
 }
+
+// ---- refusal 4, of a channel
 
 // A channel of a signal with at most two generators, given their tests.
 fn plain_in_range(ch: Channel, last_place: u64, first: bool, second: bool) -> bool
@@ -138,5 +156,5 @@ fn numbered_in_range(ch: Channel) -> bool
 pub fn in_range(ch: Channel) -> bool
     ensures { λ r. ⌜ r ≡ inRange ch ⌝ }
 {
-    (1 <= ch.prn) & (ch.prn <= 37) & numbered_in_range(ch)
+    is_prn(ch.prn as u64) & numbered_in_range(ch)
 }

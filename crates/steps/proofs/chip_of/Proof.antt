@@ -77,7 +77,7 @@ returns-6 : tie.Need-returns-6
 returns-6 c =
     let ch = c .before .before .args .ch in
     let no = c .before .match .rest in
-    c .chip-l52 .ensures ∙ sym (chip-is ch (is-q5 (ch .signal) (ch .prn) (is-sixth ch (c .before .before .pre) (no .0 .0 .0 .0 .1) (no .0 .0 .0 .1) (no .0 .0 .1) (no .0 .1) (no .1))))
+    c .chip-l52 .ensures ∙ sym (chip-is ch (is-q5 (ch .signal) (ch .prn) (is-sixth (ch .signal) (c .before .before .pre .signal-first) (c .before .before .pre .signal-last) (no .0 .0 .0 .0 .1) (no .0 .0 .0 .1) (no .0 .0 .1) (no .0 .1) (no .1))))
 
 pub chip-of-spec : {M : Type 1} → statement M
 chip-of-spec =

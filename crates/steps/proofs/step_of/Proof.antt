@@ -49,7 +49,7 @@ step-q5-requires : tie.Need-step-q5-requires
 step-q5-requires c κs =
     let ch = c .before .args .ch in
     let no = c .match .rest in
-    let six = is-sixth ch (c .before .pre) (no .0 .0 .0 .0 .1) (no .0 .0 .0 .1) (no .0 .0 .1) (no .0 .1) (no .1) in
+    let six = is-sixth (ch .signal) (c .before .pre .signal-first) (c .before .pre .signal-last) (no .0 .0 .0 .0 .1) (no .0 .0 .0 .1) (no .0 .0 .1) (no .0 .1) (no .1) in
     (c .before .pre .prn-in, fields-as ch (is-q5 (ch .signal) (ch .prn) six) (c .before .pre))
 
 -- src/lib.rt:210:1
@@ -87,7 +87,7 @@ returns-6 : tie.Need-returns-6
 returns-6 c =
     let ch = c .before .before .args .ch in
     let no = c .before .match .rest in
-    c .step-q5 .ensures ∙ sym (step-is ch (is-q5 (ch .signal) (ch .prn) (is-sixth ch (c .before .before .pre) (no .0 .0 .0 .0 .1) (no .0 .0 .0 .1) (no .0 .0 .1) (no .0 .1) (no .1))))
+    c .step-q5 .ensures ∙ sym (step-is ch (is-q5 (ch .signal) (ch .prn) (is-sixth (ch .signal) (c .before .before .pre .signal-first) (c .before .before .pre .signal-last) (no .0 .0 .0 .0 .1) (no .0 .0 .0 .1) (no .0 .0 .1) (no .0 .1) (no .1))))
 
 pub step-of-spec : {M : Type 1} → statement M
 step-of-spec =
