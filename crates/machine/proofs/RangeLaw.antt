@@ -1,25 +1,26 @@
 -- The range law: an opened channel is in range, and a step keeps a channel in range, whatever its signal and PRN.
 --     opened-in   a channel is in range where it is opened
---     step-in     a channel in range is in range one step on
+--     step-in     a channel in range is in range one step on; advance-in, any number of steps on
 --     Sound k     what the constants of a generator have to be for that; SoundSignal s, those of a signal
 -- Assumes nothing.
 use Prim.Native.Nat.{ℕ, zero, suc, _+_, _-_, _^_, _≤_, _<_, zero-le}
 use mathlib.Core.Bool.{Bool, true, false, cond, _&&_}
 use mathlib.Core.Path.{_≡_, refl}
-use mathlib.Core.List.{List, [], _∷_}
 use native.Mathlib.Nat.{mod-lt}
 use native.Mathlib.Omega.{arith}
 use lib.Dec.{leb, eqb, lit<, lit≤}
 use lib.ListN.{getD}
 use lib.Pow.{pow-pos}
 use borrow.Author.Tests.{leb-true, le-leb, eqb-false}
+use Rattle.registers.specs.Times.{times}
 use Rattle.registers.proofs.Shifts.{Shift}
 use Rattle.registers.proofs.Shifts as shifts
 use Rattle.starts.specs.Starts.{Listed, startCM, startCL, startI5, startQ5}
 use Rattle.starts.proofs.Ranges.{start-cm-in, start-cl-in, start-i5-in, start-q5-in}
 use Rattle.machine.specs.Generators.{Kind, fresh, upTo, stepIn, stepGenerator, modeInRange, heldAt, heldAtEnd}
-use Rattle.machine.specs.Signals.{Signal, steady, cut, none, plain, g1, g2, x1a, x1b, x2a, x2b, cm, cl, xa, xb, signals, noSignal, signalOf, signalP}
-use Rattle.machine.specs.Machine.{returned, stepAs, step, openedAs, opened, inRange}
+use Rattle.machine.specs.Signals.{Signal, none, plain, g1, g2, x1a, x1b, x2a, x2b, cm, cl, xa, xb, chipL5}
+use Rattle.machine.specs.Signals.{signalCA, signalP, signalCM, signalCL, signals, noSignal, signalOf}
+use Rattle.machine.specs.Machine.{returned, stepAs, step, advance, openedAs, opened, inRange}
 use Rattle.machine.specs.Ranged.{RangedKind, RangedAs, Ranged}
 use Rattle.machine.specs.declared.Mode.{Mode}
 use Rattle.machine.specs.declared.Mode.the-variants.{Running, Held}
@@ -39,6 +40,9 @@ up-to-le : (highest n : ℕ) → n ≤ highest → upTo highest n ≤ highest
 up-to-le highest n h =
     chosen (λ (m : ℕ). m ≤ highest) (eqb n highest) (λ e. zero-le)
     (λ e. let ne : (n ≡ highest → ⊥) = eqb-false n highest e in omega arith)
+
+next-place-in : (week n : ℕ) → n < week → upTo (week - 1) n < week
+next-place-in week n h = omega (arith, up-to-le (week - 1) n (omega arith))
 
 module _ (k : Kind) (sound : Sound k) where
   pub fresh-in : (n : ℕ) → n ≤ k .highest → RangedKind k (fresh (k .start) n)
@@ -85,91 +89,71 @@ held-at-end-in p₀ c₀ n m e p c h h′ =
     (λ t. chosen (λ (x : Mode). modeInRange true x ≡ true) (eqb p p₀) (λ u. le-leb m 1069 h′) (λ u. refl))
     (λ t. held-at-in p₀ c₀ n p c h)
 
-steady-sound : (s : ℕ) {f : ℕ → ℕ} (start last highest : ℕ) → Shift s f → start < 2 ^ s → Sound (steady s f start last highest)
-steady-sound s start last highest f-in h = record { shift-in = f-in .keeps; start-in = h; arrival-in = λ e p c. refl }
-
-cut-sound : (s : ℕ) {f : ℕ → ℕ} (start last lastCut : ℕ) → Shift s f → start < 2 ^ s → Sound (cut s f start last lastCut)
-cut-sound s start last lastCut f-in h = record { shift-in = f-in .keeps; start-in = h; arrival-in = λ e p c. refl }
+sound : (k : Kind) → Shift (k .width) (k .shift) → k .start < 2 ^ k .width
+    → ((e : Bool) (p c : ℕ) → modeInRange (k .holds) (k .arrival e p c) ≡ true) → Sound k
+sound k f h arrives = record { shift-in = f .keeps; start-in = h; arrival-in = arrives }
 
 none-sound : Sound none
 none-sound = record { shift-in = λ r h. lit< tt; start-in = lit< tt; arrival-in = λ e p c. refl }
 
-x1b-sound : Sound x1b
-x1b-sound =
-    record { shift-in = shifts.x1b .keeps; start-in = lit< tt; arrival-in = λ e p c. held-at-in 4092 3748 343 p c (lit≤ tt) }
-
-x2a-sound : Sound x2a
-x2a-sound =
-    record { shift-in = shifts.x2a .keeps; start-in = lit< tt; arrival-in = λ e p c. held-at-end-in 4091 3749 37 1069 e p c (lit≤ tt) (lit≤ tt) }
-
-x2b-sound : Sound x2b
-x2b-sound =
-    record { shift-in = shifts.x2b .keeps; start-in = lit< tt; arrival-in = λ e p c. held-at-end-in 4092 3748 380 965 e p c (lit≤ tt) (lit≤ tt) }
-
 -- ---- the signals
 
 pub record SoundSignal (s : Signal) : Type 0 where
+  pub week-sound : 0 < s .week
   pub line-sound : s .lineStart < 2 ^ s .lineBits
   pub first-sound : Sound (s .first)
   pub second-sound : Sound (s .second)
   pub third-sound : Sound (s .third)
   pub fourth-sound : Sound (s .fourth)
 
-plain-sound : (last : ℕ) {first second : Kind} (chip : Channel → ℕ) → Sound first → Sound second → SoundSignal (plain last first second chip)
-plain-sound last chip a b =
-    record { line-sound = lit< tt; first-sound = a; second-sound = b; third-sound = none-sound; fourth-sound = none-sound }
+plain-sound : (week : ℕ) {first second : Kind} (chip : Channel → ℕ) → 0 < week → Sound first → Sound second → SoundSignal (plain week first second chip)
+plain-sound week chip h a b =
+    record { week-sound = h; line-sound = lit< tt; first-sound = a; second-sound = b; third-sound = none-sound; fourth-sound = none-sound }
+
+ca-sound : (prn : ℕ) → SoundSignal (signalCA prn)
+ca-sound prn =
+    plain-sound _ _ (lit< tt) (sound g1 shifts.g1 (lit< tt) (λ e p c. refl)) (sound g2 shifts.g2 (lit< tt) (λ e p c. refl))
 
 p-sound : (prn : ℕ) → SoundSignal (signalP prn)
 p-sound prn =
     record {
+      week-sound = lit< tt;
       line-sound = lit< tt;
-      first-sound = steady-sound 12 _ _ _ shifts.x1a (lit< tt);
-      second-sound = x1b-sound;
-      third-sound = x2a-sound;
-      fourth-sound = x2b-sound;
+      first-sound = sound x1a shifts.x1a (lit< tt) (λ e p c. refl);
+      second-sound = sound x1b shifts.x1b (lit< tt) (λ e p c. held-at-in 4092 3748 343 p c (lit≤ tt));
+      third-sound = sound x2a shifts.x2a (lit< tt) (λ e p c. held-at-end-in 4091 3749 37 1069 e p c (lit≤ tt) (lit≤ tt));
+      fourth-sound = sound x2b shifts.x2b (lit< tt) (λ e p c. held-at-end-in 4092 3748 380 965 e p c (lit≤ tt) (lit≤ tt));
     }
 
--- a fact of each signal of a list
-Each : List Signal → Type 0
-Each [] = Unit
-Each (s ∷ ss) = SoundSignal s × Each ss
+cm-sound : (prn : ℕ) → SoundSignal (signalCM prn)
+cm-sound prn = plain-sound _ _ (lit< tt) (sound (cm prn) shifts.l2 (start-cm-in prn) (λ e p c. refl)) none-sound
 
-each-at : (l : List Signal) → Each l → (k : ℕ) → SoundSignal (getD l k noSignal)
-unfolding Each
-each-at [] all k = plain-sound 0 _ none-sound none-sound
-each-at (s ∷ ss) all zero = all .0
-each-at (s ∷ ss) all (suc k) = each-at ss (all .1) k
+cl-sound : (prn : ℕ) → SoundSignal (signalCL prn)
+cl-sound prn = plain-sound _ _ (lit< tt) none-sound (sound (cl prn) shifts.l2 (start-cl-in prn) (λ e p c. refl))
+
+l5-sound : (start : ℕ) → start < 2 ^ 13 → SoundSignal (plain 6187104000000 xa (xb start) chipL5)
+l5-sound start h =
+    plain-sound _ _ (lit< tt) (sound xa shifts.xa (lit< tt) (λ e p c. refl)) (sound (xb start) shifts.xb h (λ e p c. refl))
+
+-- in the order of the list
+sound-at : (k prn : ℕ) → SoundSignal (getD (signals prn) k noSignal)
+sound-at zero prn = ca-sound prn
+sound-at (suc zero) prn = p-sound prn
+sound-at (suc (suc zero)) prn = cm-sound prn
+sound-at (suc (suc (suc zero))) prn = cl-sound prn
+sound-at (suc (suc (suc (suc zero)))) prn = l5-sound _ (start-i5-in prn)
+sound-at (suc (suc (suc (suc (suc zero))))) prn = l5-sound _ (start-q5-in prn)
+sound-at (suc (suc (suc (suc (suc (suc k)))))) prn = plain-sound 1 _ (lit< tt) none-sound none-sound
 
 pub sound-of : (n prn : ℕ) → SoundSignal (signalOf n prn)
-unfolding Each
-sound-of n prn =
-    each-at (signals prn) (
-      plain-sound _ _ (steady-sound 10 _ _ _ shifts.g1 (lit< tt)) (steady-sound 10 _ _ _ shifts.g2 (lit< tt)),
-      (
-        p-sound prn,
-        (
-          plain-sound _ _ (steady-sound 27 _ _ _ shifts.l2 (start-cm-in prn)) none-sound,
-          (
-            plain-sound _ _ none-sound (steady-sound 27 _ _ _ shifts.l2 (start-cl-in prn)),
-            (
-              plain-sound _ _ (cut-sound 13 _ _ _ shifts.xa (lit< tt)) (cut-sound 13 _ _ _ shifts.xb (start-i5-in prn)),
-              (
-                plain-sound _ _ (cut-sound 13 _ _ _ shifts.xa (lit< tt)) (cut-sound 13 _ _ _ shifts.xb (start-q5-in prn)),
-                tt,
-              ),
-            ),
-          ),
-        ),
-      ),
-    )
-    (n - 1)
+sound-of n prn = sound-at (n - 1) prn
 
 -- ---- the channel
 
 step-as-in : (s : Signal) (ch : Channel) → SoundSignal s → RangedAs s ch → RangedAs s (stepAs s ch)
 step-as-in s ch sound r =
     record {
-      place-in = up-to-le (s .lastPlace) (ch .place) (r .place-in);
+      place-in = next-place-in (s .week) (ch .place) (r .place-in);
       epoch-in =
           chosen (λ (n : ℕ). n ≤ s .lastEpoch) (returned (ch .first) (stepGenerator (s .first) false (ch .first)))
           (λ t. up-to-le (s .lastEpoch) (ch .epoch) (r .epoch-in))
@@ -184,7 +168,7 @@ step-as-in s ch sound r =
 opened-as-in : (s : Signal) (n prn : ℕ) → SoundSignal s → RangedAs s (openedAs s n prn)
 opened-as-in s n prn sound =
     record {
-      place-in = zero-le;
+      place-in = sound .week-sound;
       epoch-in = zero-le;
       delay-in = sound .line-sound;
       first-in = fresh-in (s .first) (sound .first-sound) 0 zero-le;
@@ -205,6 +189,11 @@ step-ranged ch r =
 
 pub step-in : (ch : Channel) → inRange ch ≡ true → inRange (step ch) ≡ true
 step-in ch e = in-range (step ch) (step-ranged ch (ranged ch e))
+
+pub advance-in : (n : ℕ) (ch : Channel) → inRange ch ≡ true → inRange (advance n ch) ≡ true
+unfolding advance times
+advance-in zero ch e = e
+advance-in (suc n) ch e = advance-in n (step ch) (step-in ch e)
 
 pub opened-in : (signal prn : ℕ) → 1 ≤ signal → signal ≤ 6 → Listed 37 prn → inRange (opened signal prn) ≡ true
 unfolding opened

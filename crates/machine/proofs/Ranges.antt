@@ -45,7 +45,7 @@ in-range-kind k g r = fields-in-range (2 ^ k .width) (k .last (g .cycles)) (k .h
 pub ranged-as : (s : Signal) (ch : Channel) → inRangeAs s ch ≡ true → RangedAs s ch
 ranged-as s ch e =
     let all =
-    seven (leb (ch .place) (s .lastPlace)) (leb (ch .epoch) (s .lastEpoch)) (ltb (ch .delay) (2 ^ s .lineBits))
+    seven (ltb (ch .place) (s .week)) (leb (ch .epoch) (s .lastEpoch)) (ltb (ch .delay) (2 ^ s .lineBits))
     (generatorInRange (s .first) (ch .first))
     (generatorInRange (s .second) (ch .second))
     (generatorInRange (s .third) (ch .third))
@@ -53,7 +53,7 @@ ranged-as s ch e =
     e
     in
     record {
-      place-in = leb-true _ _ (all .0);
+      place-in = ltb-true _ _ (all .0);
       epoch-in = leb-true _ _ (all .1);
       delay-in = ltb-true _ _ (all .2);
       first-in = ranged-kind (s .first) (ch .first) (all .3);
@@ -68,7 +68,7 @@ in-range-as s ch r =
     (both-true
     (both-true
     (both-true
-    (both-true (both-true (le-leb _ _ (r .place-in)) (le-leb _ _ (r .epoch-in))) (lt-ltb _ _ (r .delay-in)))
+    (both-true (both-true (lt-ltb _ _ (r .place-in)) (le-leb _ _ (r .epoch-in))) (lt-ltb _ _ (r .delay-in)))
     (in-range-kind (s .first) (ch .first) (r .first-in)))
     (in-range-kind (s .second) (ch .second) (r .second-in)))
     (in-range-kind (s .third) (ch .third) (r .third-in)))

@@ -1,7 +1,7 @@
 -- The stepped machine: its step, its chip, where it opens, and which channels are in range. Document 01, "The stepped machine" and "Operations and
 -- refusals".
 -- Assumes nothing.
-use Prim.Native.Nat.{ℕ, zero, suc, _+_, _*_, _%_, _^_}
+use Prim.Native.Nat.{ℕ, zero, suc, _+_, _-_, _*_, _%_, _^_}
 use mathlib.Core.Bool.{Bool, true, false, cond, _&&_}
 use mathlib.Core.List.{List, [], _∷_}
 use lib.Dec.{ltb, leb, eqb}
@@ -37,7 +37,7 @@ stepWith s first epoch ch =
       signal = ch .signal;
       prn = ch .prn;
       -- "Place plus 1, from W - 1 to 0."
-      place = upTo (s .lastPlace) (ch .place);
+      place = upTo (s .week - 1) (ch .place);
       epoch = epoch;
       delay = nextLine (s .lineBits) (ch .third .register) (ch .fourth .register) (ch .delay);
       first = first;
@@ -102,7 +102,7 @@ isPrn n = leb 1 n && leb n 37
 
 abbrev pub inRangeAs : Signal → Channel → Bool
 inRangeAs s ch =
-    leb (ch .place) (s .lastPlace) && leb (ch .epoch) (s .lastEpoch) && ltb (ch .delay) (2 ^ s .lineBits)
+    ltb (ch .place) (s .week) && leb (ch .epoch) (s .lastEpoch) && ltb (ch .delay) (2 ^ s .lineBits)
     && generatorInRange (s .first) (ch .first)
     && generatorInRange (s .second) (ch .second)
     && generatorInRange (s .third) (ch .third)

@@ -21,7 +21,7 @@ RangedKind k g = FieldsRanged (2 ^ k .width) (k .last (g .cycles)) (k .highest) 
 
 -- the fields of a channel are in the ranges of a signal
 pub record RangedAs (s : Signal) (ch : Channel) : Type 0 where
-  pub place-in : ch .place ≤ s .lastPlace
+  pub place-in : ch .place < s .week
   pub epoch-in : ch .epoch ≤ s .lastEpoch
   pub delay-in : ch .delay < 2 ^ s .lineBits
   pub first-in : RangedKind (s .first) (ch .first)

@@ -12,8 +12,8 @@ use Rattle.machine.specs.declared.Channel.{Channel}
 
 -- The constants of a signal of a PRN.
 pub record Signal : Type 0 where
-  -- the week's last place, W - 1
-  pub lastPlace : ℕ
+  -- W, the places of the week
+  pub week : ℕ
   -- the week's last epoch; 0 for a signal that has no epoch
   pub lastEpoch : ℕ
   -- the bits of the delay line, and the line at place 0
@@ -31,31 +31,31 @@ pub record Signal : Type 0 where
 
 -- never held, with cycles of one length
 abbrev pub steady : ℕ → (ℕ → ℕ) → ℕ → ℕ → ℕ → Kind
-steady width shift start last highest =
-    record { width = width; shift = shift; start = start; last = λ c. last; highest = highest; holds = false; arrival = neverHeld }
+steady width shift start length highest =
+    record { width = width; shift = shift; start = start; last = λ c. length - 1; highest = highest; holds = false; arrival = neverHeld }
 
--- never held, with two cycles, the second cut short: "In cycles 1 the last phase is 2,039 for XA and 2,038 for XB."
+-- never held, with two cycles, the second cut short at a last phase of its own
 abbrev pub cut : ℕ → (ℕ → ℕ) → ℕ → ℕ → ℕ → Kind
-cut width shift start last lastCut =
+cut width shift start length lastCut =
     record {
       width = width;
       shift = shift;
       start = start;
-      last = λ c. cond (eqb c 1) lastCut last;
+      last = λ c. cond (eqb c 1) lastCut (length - 1);
       highest = 1;
       holds = false;
       arrival = neverHeld;
     }
 
--- A generator that the signal lacks has no stage, and every count of it ends at 0: "Fields that a signal doesn't have are 0 and running."
+-- A generator that the signal lacks has no stage, and cycles of one chip: "Fields that a signal doesn't have are 0 and running."
 abbrev pub none : Kind
-none = steady 0 (λ r. 0) 0 0 0
+none = steady 0 (λ r. 0) 0 1 0
 
 -- a signal of at most two generators, with no epoch and no delay line
 abbrev pub plain : ℕ → Kind → Kind → (Channel → ℕ) → Signal
-plain lastPlace first second chip =
+plain week first second chip =
     record {
-      lastPlace = lastPlace;
+      week = week;
       lastEpoch = 0;
       lineBits = 0;
       lineStart = 0;
@@ -69,22 +69,22 @@ plain lastPlace first second chip =
 -- ---- 1: C/A. "Cycle lengths: G1, G2 1,023."
 
 abbrev pub g1 : Kind
-g1 = steady 10 shiftG1 startG1 1022 0
+g1 = steady 10 shiftG1 startG1 1023 0
 
 abbrev pub g2 : Kind
-g2 = steady 10 shiftG2 startG2 1022 0
+g2 = steady 10 shiftG2 startG2 1023 0
 
 -- "C/A: G1 plus two stages of G2"
 abbrev pub chipCA : ℕ → ℕ → Channel → ℕ
 chipCA j k ch = (stage 10 (ch .first .register) + stage j (ch .second .register) + stage k (ch .second .register)) % 2
 
 abbrev pub signalCA : ℕ → Signal
-signalCA prn = plain 618710399999 g1 g2 (chipCA (stagesOf prn .first) (stagesOf prn .second))
+signalCA prn = plain 618710400000 g1 g2 (chipCA (stagesOf prn .first) (stagesOf prn .second))
 
 -- ---- 2: P. "X1A, X2A 4,092. X1B, X2B 4,093"; highest cycles "3,749 for X1A, X2A; 3,748 for X1B, X2B"
 
 abbrev pub x1a : Kind
-x1a = steady 12 shiftX1A startX1A 4091 3749
+x1a = steady 12 shiftX1A startX1A 4092 3749
 
 -- "X1B that so arrives at phase 4,092 in cycles 3,748 becomes held with 343"
 abbrev pub x1b : Kind
@@ -93,7 +93,7 @@ x1b =
       width = 12;
       shift = shiftX1B;
       start = startX1B;
-      last = λ c. 4092;
+      last = λ c. 4093 - 1;
       highest = 3748;
       holds = true;
       arrival = λ weekEnd. heldAt 4092 3748 343;
@@ -106,7 +106,7 @@ x2a =
       width = 12;
       shift = shiftX2A;
       start = startX2A;
-      last = λ c. 4091;
+      last = λ c. 4092 - 1;
       highest = 3749;
       holds = true;
       arrival = heldAtEnd 4091 3749 37 1069;
@@ -119,7 +119,7 @@ x2b =
       width = 12;
       shift = shiftX2B;
       start = startX2B;
-      last = λ c. 4092;
+      last = λ c. 4093 - 1;
       highest = 3748;
       holds = true;
       arrival = heldAtEnd 4092 3748 380 965;
@@ -133,7 +133,7 @@ chipP prn ch = (stage 12 (ch .first .register) + stage 12 (ch .second .register)
 abbrev pub signalP : ℕ → Signal
 signalP prn =
     record {
-      lastPlace = 6187103999999;
+      week = 6187104000000;
       lastEpoch = 403199;
       lineBits = 37;
       lineStart = 2 ^ 37 - 1;
@@ -147,10 +147,10 @@ signalP prn =
 -- ---- 3 and 4: L2 CM and L2 CL. "CM 10,230. CL 767,250." "CM, CL: the bit given", the lowest
 
 abbrev pub cm : ℕ → Kind
-cm prn = steady 27 shiftL2 (startCM prn) 10229 0
+cm prn = steady 27 shiftL2 (startCM prn) 10230 0
 
 abbrev pub cl : ℕ → Kind
-cl prn = steady 27 shiftL2 (startCL prn) 767249 0
+cl prn = steady 27 shiftL2 (startCL prn) 767250 0
 
 abbrev pub chipCM : Channel → ℕ
 chipCM ch = ch .first .register % 2
@@ -159,27 +159,27 @@ abbrev pub chipCL : Channel → ℕ
 chipCL ch = ch .second .register % 2
 
 abbrev pub signalCM : ℕ → Signal
-signalCM prn = plain 309355199999 (cm prn) none chipCM
+signalCM prn = plain 309355200000 (cm prn) none chipCM
 
 abbrev pub signalCL : ℕ → Signal
-signalCL prn = plain 309355199999 none (cl prn) chipCL
+signalCL prn = plain 309355200000 none (cl prn) chipCL
 
--- ---- 5 and 6: I5 and Q5. "XA 8,190, XB 8,191." "L5: XA plus XB."
+-- ---- 5 and 6: I5 and Q5. "XA 8,190, XB 8,191. .. In cycles 1 the last phase is 2,039 for XA and 2,038 for XB." "L5: XA plus XB."
 
 abbrev pub xa : Kind
-xa = cut 13 shiftXA startXA 8189 2039
+xa = cut 13 shiftXA startXA 8190 2039
 
 abbrev pub xb : ℕ → Kind
-xb start = cut 13 shiftXB start 8190 2038
+xb start = cut 13 shiftXB start 8191 2038
 
 abbrev pub chipL5 : Channel → ℕ
 chipL5 ch = (stage 13 (ch .first .register) + stage 13 (ch .second .register)) % 2
 
 abbrev pub signalI5 : ℕ → Signal
-signalI5 prn = plain 6187103999999 xa (xb (startI5 prn)) chipL5
+signalI5 prn = plain 6187104000000 xa (xb (startI5 prn)) chipL5
 
 abbrev pub signalQ5 : ℕ → Signal
-signalQ5 prn = plain 6187103999999 xa (xb (startQ5 prn)) chipL5
+signalQ5 prn = plain 6187104000000 xa (xb (startQ5 prn)) chipL5
 
 -- ---- the list of signals, open at its end: "Signal 1 C/A, 2 P, 3 L2 CM, 4 L2 CL, 5 I5, 6 Q5."
 
@@ -188,7 +188,7 @@ signals prn = signalCA prn ∷ signalP prn ∷ signalCM prn ∷ signalCL prn ∷
 
 -- what stands for a number that no signal has
 abbrev pub noSignal : Signal
-noSignal = plain 0 none none (λ ch. 0)
+noSignal = plain 1 none none (λ ch. 0)
 
 abbrev pub signalOf : ℕ → ℕ → Signal
 signalOf n prn = getD (signals prn) (n - 1) noSignal

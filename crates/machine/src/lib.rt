@@ -27,14 +27,14 @@ pub struct Channel {
     pub fourth: Generator,
 }
 
-// The week's last place, W - 1.
-pub const LAST_PLACE_CA: u64 = 618_710_399_999;
+// W, the places of the week.
+pub const WEEK_CA: u64 = 618_710_400_000;
 
-pub const LAST_PLACE_P: u64 = 6_187_103_999_999;
+pub const WEEK_P: u64 = 6_187_104_000_000;
 
-pub const LAST_PLACE_L2: u64 = 309_355_199_999;
+pub const WEEK_L2: u64 = 309_355_200_000;
 
-pub const LAST_PLACE_L5: u64 = 6_187_103_999_999;
+pub const WEEK_L5: u64 = 6_187_104_000_000;
 
 // The week's last epoch of 1.5 seconds.
 pub const LAST_EPOCH: u32 = 403_199;

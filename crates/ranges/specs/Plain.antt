@@ -10,8 +10,8 @@ use Rattle.machine.specs.declared.Channel.{Channel}
 
 -- a channel of a signal with at most two generators, given their tests
 abbrev pub plainInRange : ℕ → Bool → Bool → Channel → Bool
-plainInRange lastPlace first second ch =
-    leb (ch .place) lastPlace && leb (ch .epoch) 0 && ltb (ch .delay) 1 && first && second
+plainInRange week first second ch =
+    ltb (ch .place) week && leb (ch .epoch) 0 && ltb (ch .delay) 1 && first && second
     && generatorInRange none (ch .third)
     && generatorInRange none (ch .fourth)
 

@@ -52,10 +52,10 @@ fn lacking(g: Generator) -> bool
 // ---- refusal 4, of a channel
 
 // A channel of a signal with at most two generators, given their tests.
-fn plain_in_range(ch: Channel, last_place: u64, first: bool, second: bool) -> bool
-    ensures { λ r. ⌜ r ≡ plainInRange «last_place» first second ch ⌝ }
+fn plain_in_range(ch: Channel, week: u64, first: bool, second: bool) -> bool
+    ensures { λ r. ⌜ r ≡ plainInRange week first second ch ⌝ }
 {
-    (ch.place <= last_place)
+    (ch.place < week)
         & (ch.epoch <= 0)
         & (ch.delay < 1)
         & first
@@ -69,7 +69,7 @@ fn ca_in_range(ch: Channel) -> bool
 {
     let first = generator_in_range(ch.first, 1_024, machine::LAST_G, 0, false);
     let second = generator_in_range(ch.second, 1_024, machine::LAST_G, 0, false);
-    plain_in_range(ch, machine::LAST_PLACE_CA, first, second)
+    plain_in_range(ch, machine::WEEK_CA, first, second)
 }
 
 fn p_in_range(ch: Channel) -> bool
@@ -103,7 +103,7 @@ fn p_in_range(ch: Channel) -> bool
         machine::HIGHEST_X2B,
         true,
     );
-    (ch.place <= machine::LAST_PLACE_P)
+    (ch.place < machine::WEEK_P)
         & (ch.epoch <= machine::LAST_EPOCH)
         & (ch.delay < machine::LINE_LIMIT)
         & x1a
@@ -116,14 +116,14 @@ fn cm_in_range(ch: Channel) -> bool
     ensures { λ r. ⌜ r ≡ inRangeAs (signalCM (ch .prn)) ch ⌝ }
 {
     let first = generator_in_range(ch.first, 134_217_728, machine::LAST_CM, 0, false);
-    plain_in_range(ch, machine::LAST_PLACE_L2, first, lacking(ch.second))
+    plain_in_range(ch, machine::WEEK_L2, first, lacking(ch.second))
 }
 
 fn cl_in_range(ch: Channel) -> bool
     ensures { λ r. ⌜ r ≡ inRangeAs (signalCL (ch .prn)) ch ⌝ }
 {
     let second = generator_in_range(ch.second, 134_217_728, machine::LAST_CL, 0, false);
-    plain_in_range(ch, machine::LAST_PLACE_L2, lacking(ch.first), second)
+    plain_in_range(ch, machine::WEEK_L2, lacking(ch.first), second)
 }
 
 // I5 and Q5, whose ranges are the same.
@@ -134,7 +134,7 @@ fn l5_in_range(ch: Channel) -> bool
     let last_xb = generators::last_xb(ch.second.cycles);
     let first = generator_in_range(ch.first, 8_192, last_xa, machine::HIGHEST_XA, false);
     let second = generator_in_range(ch.second, 8_192, last_xb, machine::HIGHEST_XB, false);
-    plain_in_range(ch, machine::LAST_PLACE_L5, first, second)
+    plain_in_range(ch, machine::WEEK_L5, first, second)
 }
 
 // The signal's number and the fields that its signal has and lacks.

@@ -23,10 +23,10 @@ no-epoch before after n h =
     same true = refl
     same false = refl
 
-pub plain-is : (last : ℕ) (a b : Kind) (f : Channel → ℕ) (x y : Generator) (ch : Channel) → RangedAs (plain last a b f) ch
+pub plain-is : (week : ℕ) (a b : Kind) (f : Channel → ℕ) (x y : Generator) (ch : Channel) → RangedAs (plain week a b f) ch
     → x ≡ stepGenerator a false (ch .first) → ((e : Bool) → y ≡ stepGenerator b e (ch .second))
-    → plainStep last x y ch ≡ stepAs (plain last a b f) ch
-plain-is last a b f x y ch r p q =
+    → plainStep week x y ch ≡ stepAs (plain week a b f) ch
+plain-is week a b f x y ch r p q =
     let after = stepGenerator a false (ch .first) in
     let weekEnd = atWeekEnd after (nextEpoch 0 (ch .first) after (ch .epoch)) in
     let epoch = no-epoch (ch .first) after (ch .epoch) (r .epoch-in) in
@@ -36,7 +36,7 @@ plain-is last a b f x y ch r p q =
     record {
       signal = ch .signal;
       prn = ch .prn;
-      place = stepAs (plain last a b f) ch .place;
+      place = stepAs (plain week a b f) ch .place;
       epoch = epoch j;
       delay = delay j;
       first = p j;

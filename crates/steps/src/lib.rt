@@ -1,6 +1,6 @@
 // One chip and one step of a channel in range, by signal. Each generator's step sees that generator alone.
 ghost use mathlib.Core.Path.{_≡_};
-ghost use Prim.Native.Nat.{_<_, _≤_, _^_};
+ghost use Prim.Native.Nat.{_-_, _<_, _≤_, _^_};
 ghost use Rattle.registers.specs.Register.{stage};
 ghost use Rattle.starts.specs.Starts.{Listed, stagesOf};
 ghost use Rattle.machine.specs.Generators.{upTo};
@@ -83,11 +83,12 @@ pub fn chip_of(ch: Channel) -> u8
 
 // ---- the step
 
-fn next_place(place: u64, last: u64) -> u64
-    requires { ⌜ place < 2 ^ 63 ⌝ }
-    ensures { λ r. ⌜ r ≡ upTo last place ⌝ }
+// The place after a step, round the week.
+fn next_place(place: u64, week: u64) -> u64
+    requires { ⌜ place < week ⌝ }
+    ensures { λ r. ⌜ r ≡ upTo (week - 1) place ⌝ }
 {
-    if place == last { 0 } else { place + 1 }
+    if place == week - 1 { 0 } else { place + 1 }
 }
 
 // The epoch after a step, given X1A before and after it.
@@ -128,7 +129,7 @@ pub fn step_p(ch: Channel) -> Channel
     Channel {
         signal: ch.signal,
         prn: ch.prn,
-        place: next_place(ch.place, machine::LAST_PLACE_P),
+        place: next_place(ch.place, machine::WEEK_P),
         epoch,
         delay: next_line(ch.third.register, ch.fourth.register, ch.delay),
         first,
@@ -139,16 +140,16 @@ pub fn step_p(ch: Channel) -> Channel
 }
 
 // A channel of a signal with at most two generators, given these after the step. What the signal lacks is handed on as it is.
-fn plain_step(ch: Channel, last_place: u64, first: Generator, second: Generator) -> Channel
-    requires { ⌜ ch .place < 2 ^ 63 ⌝ }
-    ensures { λ r. ⌜ r ≡ plainStep «last_place» first second ch ⌝ }
+fn plain_step(ch: Channel, week: u64, first: Generator, second: Generator) -> Channel
+    requires { ⌜ ch .place < week ⌝ }
+    ensures { λ r. ⌜ r ≡ plainStep week first second ch ⌝ }
 {
     let third = ch.third;
     let fourth = ch.fourth;
     Channel {
         signal: ch.signal,
         prn: ch.prn,
-        place: next_place(ch.place, last_place),
+        place: next_place(ch.place, week),
         epoch: ch.epoch,
         delay: ch.delay,
         first,
@@ -164,7 +165,7 @@ pub fn step_ca(ch: Channel) -> Channel
 {
     let first = generators::step_g1(ch.first);
     let second = generators::step_g2(ch.second);
-    plain_step(ch, machine::LAST_PLACE_CA, first, second)
+    plain_step(ch, machine::WEEK_CA, first, second)
 }
 
 pub fn step_cm(ch: Channel) -> Channel
@@ -174,7 +175,7 @@ pub fn step_cm(ch: Channel) -> Channel
 {
     let first = generators::step_cm(ch.first, ch.prn);
     let second = ch.second;
-    plain_step(ch, machine::LAST_PLACE_L2, first, second)
+    plain_step(ch, machine::WEEK_L2, first, second)
 }
 
 pub fn step_cl(ch: Channel) -> Channel
@@ -184,7 +185,7 @@ pub fn step_cl(ch: Channel) -> Channel
 {
     let first = ch.first;
     let second = generators::step_cl(ch.second, ch.prn);
-    plain_step(ch, machine::LAST_PLACE_L2, first, second)
+    plain_step(ch, machine::WEEK_L2, first, second)
 }
 
 pub fn step_i5(ch: Channel) -> Channel
@@ -194,7 +195,7 @@ pub fn step_i5(ch: Channel) -> Channel
 {
     let first = generators::step_xa(ch.first);
     let second = generators::step_xb_i5(ch.second, ch.prn);
-    plain_step(ch, machine::LAST_PLACE_L5, first, second)
+    plain_step(ch, machine::WEEK_L5, first, second)
 }
 
 pub fn step_q5(ch: Channel) -> Channel
@@ -204,7 +205,7 @@ pub fn step_q5(ch: Channel) -> Channel
 {
     let first = generators::step_xa(ch.first);
     let second = generators::step_xb_q5(ch.second, ch.prn);
-    plain_step(ch, machine::LAST_PLACE_L5, first, second)
+    plain_step(ch, machine::WEEK_L5, first, second)
 }
 
 // The channel one step on.

@@ -26,7 +26,7 @@ returns c =
     let ch = start .args .ch in
     let ok = start .pre .1 in
     c .plain-step .ensures
-    ∙ plain-is 309355199999 none (cl (ch .prn)) chipCL _ _ ch ok (lacking-stays false (ch .first) (ok .first-in)) (λ e. c .before .step-cl .ensures)
+    ∙ plain-is 309355200000 none (cl (ch .prn)) chipCL _ _ ch ok (lacking-stays false (ch .first) (ok .first-in)) (λ e. c .before .step-cl .ensures)
 
 pub step-cl-spec : {M : Type 1} → statement M
 step-cl-spec = tie.close (tie.spec step-cl-requires plain-step-requires returns)

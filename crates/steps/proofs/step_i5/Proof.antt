@@ -29,7 +29,7 @@ returns c =
     let start = c .before .before .before in
     let ch = start .args .ch in
     c .plain-step .ensures
-    ∙ plain-is 6187103999999 xa (xb (startI5 (ch .prn))) chipL5 _ _ ch (start .pre .1) (c .before .before .step-xa .ensures) (λ e. c .before .step-xb-i5 .ensures)
+    ∙ plain-is 6187104000000 xa (xb (startI5 (ch .prn))) chipL5 _ _ ch (start .pre .1) (c .before .before .step-xa .ensures) (λ e. c .before .step-xb-i5 .ensures)
 
 pub step-i5-spec : {M : Type 1} → statement M
 step-i5-spec =

@@ -29,7 +29,7 @@ returns c =
     let start = c .before .before .before in
     let ch = start .args .ch in
     c .plain-step .ensures
-    ∙ plain-is 6187103999999 xa (xb (startQ5 (ch .prn))) chipL5 _ _ ch (start .pre .1) (c .before .before .step-xa .ensures) (λ e. c .before .step-xb-q5 .ensures)
+    ∙ plain-is 6187104000000 xa (xb (startQ5 (ch .prn))) chipL5 _ _ ch (start .pre .1) (c .before .before .step-xa .ensures) (λ e. c .before .step-xb-q5 .ensures)
 
 pub step-q5-spec : {M : Type 1} → statement M
 step-q5-spec =
