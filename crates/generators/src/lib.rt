@@ -138,6 +138,17 @@ pub fn step_g2(g: Generator) -> Generator
 
 // ---- P
 
+// The chips for which X1B, X2A and X2B stay at the last state of their last cycle, and X2A and X2B at that of their last cycle of the week.
+const HOLD_X1B: u32 = 343;
+
+const HOLD_X2A: u32 = 37;
+
+const HOLD_X2B: u32 = 380;
+
+const WEEK_END_HOLD_X2A: u32 = 1_069;
+
+const WEEK_END_HOLD_X2B: u32 = 965;
+
 // The mode on arrival at a phase in a cycle, held with n at one of them.
 fn held_at(at_phase: u32, at_cycles: u32, n: u32, phase: u32, cycles: u32) -> Mode
     ensures { λ r. ⌜ r ≡ heldAt «at_phase» «at_cycles» n phase cycles ⌝ }
@@ -194,7 +205,7 @@ pub fn step_x1b(g: Generator) -> Generator
     let arrival = held_at(
         machine::LAST_X1B,
         machine::HIGHEST_X1B,
-        343,
+        HOLD_X1B,
         g.phase + 1,
         g.cycles,
     );
@@ -217,8 +228,8 @@ pub fn step_x2a(g: Generator, week_end: bool) -> Generator
     let arrival = held_at_end(
         machine::LAST_X2A,
         machine::HIGHEST_X2A,
-        37,
-        1_069,
+        HOLD_X2A,
+        WEEK_END_HOLD_X2A,
         week_end,
         phase,
         g.cycles,
@@ -242,8 +253,8 @@ pub fn step_x2b(g: Generator, week_end: bool) -> Generator
     let arrival = held_at_end(
         machine::LAST_X2B,
         machine::HIGHEST_X2B,
-        380,
-        965,
+        HOLD_X2B,
+        WEEK_END_HOLD_X2B,
         week_end,
         phase,
         g.cycles,
