@@ -4,7 +4,7 @@
 --     Sound k     what the constants of a generator have to be for that; SoundSignal s, those of a signal
 -- Assumes nothing.
 use Prim.Native.Nat.{ℕ, zero, suc, _+_, _-_, _^_, _≤_, _<_, zero-le}
-use mathlib.Core.Bool.{Bool, true, false, cond, _&&_}
+use mathlib.Core.Bool.{Bool, true, false, _&&_}
 use mathlib.Core.Path.{_≡_, refl}
 use native.Mathlib.Nat.{mod-lt}
 use native.Mathlib.Omega.{arith}
@@ -15,7 +15,7 @@ use borrow.Author.Tests.{leb-true, le-leb, eqb-false}
 use Rattle.registers.specs.Times.{times}
 use Rattle.registers.proofs.Shifts.{Shift}
 use Rattle.registers.proofs.Shifts as shifts
-use Rattle.starts.specs.Starts.{Listed, startCM, startCL, startI5, startQ5}
+use Rattle.starts.specs.Starts.{Listed}
 use Rattle.starts.proofs.Ranges.{start-cm-in, start-cl-in, start-i5-in, start-q5-in}
 use Rattle.machine.specs.Generators.{Kind, fresh, upTo, stepIn, stepGenerator, modeInRange, heldAt, heldAtEnd}
 use Rattle.machine.specs.Signals.{Signal, none, plain, g1, g2, x1a, x1b, x2a, x2b, cm, cl, xa, xb, chipL5}

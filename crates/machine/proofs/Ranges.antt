@@ -1,6 +1,6 @@
 -- The range tests of `Machine` and the facts of `Ranged` say the same.
 -- Assumes nothing.
-use Prim.Native.Nat.{ℕ, _^_, _≤_, _<_}
+use Prim.Native.Nat.{ℕ, _^_, _≤_}
 use mathlib.Core.Bool.{Bool, true, _&&_}
 use mathlib.Core.Path.{_≡_}
 use lib.Dec.{ltb, leb}

@@ -1,7 +1,7 @@
 -- One generator of the stepped machine: document 01, "The stepped machine".
 -- Assumes nothing.
 use Prim.Native.Nat.{ℕ, _+_, _-_, _^_}
-use mathlib.Core.Bool.{Bool, true, false, cond, _&&_}
+use mathlib.Core.Bool.{Bool, true, cond, _&&_}
 use lib.Dec.{ltb, leb, eqb}
 use Rattle.machine.specs.declared.Mode.{Mode}
 use Rattle.machine.specs.declared.Mode.the-variants.{Running, Held}

@@ -1,12 +1,12 @@
 -- The step of a signal with at most two generators: what the signal lacks is 0 and running, and stays so.
 -- Assumes nothing.
-use Prim.Native.Nat.{ℕ, _+_, _*_, _%_, _^_, _≤_}
+use Prim.Native.Nat.{ℕ, _≤_}
 use mathlib.Core.Bool.{Bool, true, false, cond}
 use mathlib.Core.Path.{_≡_, refl, sym, _∙_}
 use native.Mathlib.Nat.{mod-one}
 use native.Mathlib.Omega.{arith}
 use Rattle.machine.specs.Generators.{Kind, stepGenerator}
-use Rattle.machine.specs.Signals.{none, plain}
+use Rattle.machine.specs.Signals.{plain}
 use Rattle.machine.specs.Machine.{returned, nextEpoch, atWeekEnd, nextLine, stepAs}
 use Rattle.machine.specs.Ranged.{RangedAs}
 use Rattle.machine.specs.declared.Generator.{Generator}

@@ -1,35 +1,28 @@
+-- `engine::open` meets its contract.
+-- Assumes nothing.
+use mathlib.Core.Path.{_≡_, sym, _∙_}
+use mathlib.Core.Bool.{true, false}
+use native.Mathlib.Omega.{arith}
+use borrow.Author.Tests.{not-true, not-false}
+use borrow.Author.Needs.{needs}
 use Rattle.engine.specs.Replies.{openReply}
 use Rattle.machine.proofs.Ranges.{signal-in, prn-in}
 use Rattle.machine.specs.Machine.{isSignal, isPrn}
-use borrow.Author.Tests.{not-true, not-false}
-use native.Mathlib.Omega.{arith}
-use mathlib.Core.Path.{_≡_, sym, _∙_}
-use mathlib.Core.Bool.{true, false}
-use borrow.Author.Needs.{needs}
 use Rattle.engine.proofs.open.Statement.{statement}
 use Rattle.engine.proofs.open.Tie as tie
-use Rattle.engine.proofs.open.Reads as reads
-use Rattle.engine.proofs.open.Lts as lts
-use Rattle.engine.proofs.open_listed.Reads as open-listed-reads
-use Rattle.ranges.proofs.is_prn.Reads as is-prn-reads
-use Rattle.ranges.proofs.is_signal.Reads as is-signal-reads
 
--- src/lib.rt:99:9
 is-signal-requires : tie.Need-is-signal-requires
 is-signal-requires c κs = search needs
 
--- src/lib.rt:100:9
 returns : tie.Need-returns
 unfolding openReply
 returns c =
     let no : isSignal (c .before .before .args .signal) ≡ false = sym (c .before .is-signal .ensures) ∙ not-true _ (c .if1 .taken) in
     simp no
 
--- src/lib.rt:102:9
 is-prn-requires : tie.Need-is-prn-requires
 is-prn-requires c κs = search needs
 
--- src/lib.rt:103:9
 returns-2 : tie.Need-returns-2
 unfolding openReply
 returns-2 c =
@@ -38,21 +31,18 @@ returns-2 c =
     let no : isPrn (args .prn) ≡ false = sym (c .before .is-prn .ensures) ∙ not-true _ (c .if2 .taken) in
     simp (yes, no)
 
--- src/lib.rt:105:26
 cast-open-listed : tie.Need-cast-open-listed
 cast-open-listed c =
     let n = c .before .before .before .before .args .signal in
     let known = signal-in n (sym (c .before .before .before .is-signal .ensures) ∙ not-false _ (c .before .before .if1 .left)) in
     record { fits = omega (arith, known .1) }
 
--- src/lib.rt:105:41
 cast-open-listed-2 : tie.Need-cast-open-listed-2
 cast-open-listed-2 c =
     let n = c .before .before .before .before .args .prn in
     let known = prn-in n (sym (c .before .is-prn .ensures) ∙ not-false _ (c .if2 .left)) in
     record { fits = omega (arith, known .last) }
 
--- src/lib.rt:105:9
 open-listed-requires : tie.Need-open-listed-requires
 open-listed-requires c κs =
     let args = c .before .before .before .before .args in
@@ -60,7 +50,6 @@ open-listed-requires c κs =
     let prn = prn-in (args .prn) (sym (c .before .is-prn .ensures) ∙ not-false _ (c .if2 .left)) in
     (signal .0, (signal .1, prn))
 
--- src/lib.rt:96:1
 returns-3 : tie.Need-returns-3
 unfolding openReply
 returns-3 c =

@@ -1,40 +1,32 @@
+-- `engine::step` meets its contract.
+-- Assumes nothing.
+use mathlib.Core.Path.{_≡_, sym, _∙_}
+use mathlib.Core.Bool.{true, false}
+use borrow.Author.Tests.{not-true, not-false}
+use borrow.Author.Needs.{needs}
 use Rattle.engine.specs.Replies.{stepReply}
 use Rattle.machine.proofs.Ranges.{ranged}
 use Rattle.machine.specs.Machine.{inRange}
-use borrow.Author.Tests.{not-true, not-false}
-use mathlib.Core.Path.{_≡_, sym, _∙_}
-use mathlib.Core.Bool.{true, false}
-use borrow.Author.Needs.{needs}
 use Rattle.engine.proofs.step.Statement.{statement}
 use Rattle.engine.proofs.step.Tie as tie
-use Rattle.engine.proofs.step.Reads as reads
-use Rattle.engine.proofs.step.Lts as lts
-use Rattle.ranges.proofs.in_range.Reads as in-range-reads
-use Rattle.steps.proofs.chip_of.Reads as chip-of-reads
-use Rattle.steps.proofs.step_of.Reads as step-of-reads
 
--- src/lib.rt:122:9
 in-range-requires : tie.Need-in-range-requires
 in-range-requires c κs = search needs
 
--- src/lib.rt:123:9
 returns : tie.Need-returns
 unfolding stepReply
 returns c =
     let no : inRange (c .before .before .args .ch) ≡ false = sym (c .before .in-range .ensures) ∙ not-true _ (c .if1 .taken) in
     simp no
 
--- src/lib.rt:125:9
 chip-of-requires : tie.Need-chip-of-requires
 chip-of-requires c κs =
     ranged (c .before .before .args .ch) (sym (c .before .in-range .ensures) ∙ not-false _ (c .if1 .left))
 
--- src/lib.rt:126:9
 step-of-requires : tie.Need-step-of-requires
 step-of-requires c κs =
     ranged (c .before .before .before .args .ch) (sym (c .before .before .in-range .ensures) ∙ not-false _ (c .before .if1 .left))
 
--- src/lib.rt:119:1
 returns-2 : tie.Need-returns-2
 unfolding stepReply
 returns-2 c =

@@ -1,14 +1,11 @@
-use borrow.Author.Needs.{needs}
+-- `generators::held_at` meets its contract.
+-- Assumes nothing.
 use Rattle.generators.proofs.held_at.Statement.{statement}
 use Rattle.generators.proofs.held_at.Tie as tie
-use Rattle.generators.proofs.held_at.Reads as reads
-use Rattle.generators.proofs.held_at.Lts as lts
 
--- src/lib.rt:142:1
 returns : tie.Need-returns
 returns c = simp (c .if1 .taken)
 
--- src/lib.rt:142:1
 returns-2 : tie.Need-returns-2
 returns-2 c = simp (c .if1 .left)
 

@@ -1,24 +1,19 @@
+-- `generators::held_at_end` meets its contract.
+-- Assumes nothing.
 use borrow.Author.Tests.{eq-eqb, ne-eqb}
 use borrow.Author.Needs.{needs}
 use Rattle.generators.proofs.held_at_end.Statement.{statement}
 use Rattle.generators.proofs.held_at_end.Tie as tie
-use Rattle.generators.proofs.held_at_end.Reads as reads
-use Rattle.generators.proofs.held_at_end.Lts as lts
-use Rattle.generators.proofs.held_at.Reads as held-at-reads
 
--- src/lib.rt:171:9
 held-at-requires : tie.Need-held-at-requires
 held-at-requires c κs = search needs
 
--- src/lib.rt:153:1
 returns : tie.Need-returns
 returns c = simp (c .before .if1 .taken, eq-eqb _ _ (c .if2 .taken))
 
--- src/lib.rt:153:1
 returns-2 : tie.Need-returns-2
 returns-2 c = simp (c .before .if1 .taken, ne-eqb _ _ (c .if2 .left))
 
--- src/lib.rt:153:1
 returns-3 : tie.Need-returns-3
 returns-3 c = simp (c .before .if1 .left) (c .held-at .ensures)
 

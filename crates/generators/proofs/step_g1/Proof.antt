@@ -1,29 +1,22 @@
-use Rattle.machine.specs.Signals.{g1}
-use Rattle.machine.proofs.Running.{steps-running}
+-- `generators::step_g1` meets its contract.
+-- Assumes nothing.
 use mathlib.Core.Path.{_∙_, refl}
 use mathlib.Core.Bool.{false}
 use borrow.Author.Needs.{needs}
+use Rattle.machine.specs.Signals.{g1}
+use Rattle.machine.proofs.Running.{steps-running}
 use Rattle.generators.proofs.step_g1.Statement.{statement}
 use Rattle.generators.proofs.step_g1.Tie as tie
-use Rattle.generators.proofs.step_g1.Reads as reads
-use Rattle.generators.proofs.step_g1.Lts as lts
-use Rattle.generators.proofs.step_running.Reads as step-running-reads
-use Rattle.registers.proofs.shift_g1.Reads as shift-g1-reads
-use Rattle.starts.proofs.start_g1.Reads as start-g1-reads
 
--- src/lib.rt:119:9
 shift-g1-requires : tie.Need-shift-g1-requires
 shift-g1-requires c κs = search needs
 
--- src/lib.rt:120:9
 start-g1-requires : tie.Need-start-g1-requires
 start-g1-requires c κs = search needs
 
--- src/lib.rt:117:5
 step-running-requires : tie.Need-step-running-requires
 step-running-requires c κs = search needs
 
--- src/lib.rt:113:1
 returns : tie.Need-returns
 returns c =
     let start = c .before .before .before in

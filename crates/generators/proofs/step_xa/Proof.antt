@@ -1,33 +1,25 @@
-use Rattle.machine.specs.Signals.{xa}
-use Rattle.machine.proofs.Running.{steps-running, cut-phase}
-use lib.Dec.{lit≤}
-use native.Mathlib.Omega.{arith}
+-- `generators::step_xa` meets its contract.
+-- Assumes nothing.
+use Prim.Native.Nat.{_≤_}
 use mathlib.Core.Path.{_∙_, refl}
 use mathlib.Core.Bool.{false}
-use Prim.Native.Nat.{_≤_}
+use native.Mathlib.Omega.{arith}
+use lib.Dec.{lit≤}
 use borrow.Author.Needs.{needs}
+use Rattle.machine.specs.Signals.{xa}
+use Rattle.machine.proofs.Running.{steps-running, cut-phase}
 use Rattle.generators.proofs.step_xa.Statement.{statement}
 use Rattle.generators.proofs.step_xa.Tie as tie
-use Rattle.generators.proofs.step_xa.Reads as reads
-use Rattle.generators.proofs.step_xa.Lts as lts
-use Rattle.generators.proofs.last_xa.Reads as last-xa-reads
-use Rattle.generators.proofs.step_running.Reads as step-running-reads
-use Rattle.registers.proofs.shift_xa.Reads as shift-xa-reads
-use Rattle.starts.proofs.start_xa.Reads as start-xa-reads
 
--- src/lib.rt:307:9
 shift-xa-requires : tie.Need-shift-xa-requires
 shift-xa-requires c κs = search needs
 
--- src/lib.rt:311:9
 start-xa-requires : tie.Need-start-xa-requires
 start-xa-requires c κs = search needs
 
--- src/lib.rt:312:9
 last-xa-requires : tie.Need-last-xa-requires
 last-xa-requires c κs = search needs
 
--- src/lib.rt:308:5
 step-running-requires : tie.Need-step-running-requires
 step-running-requires c κs =
     let start = c .before .before .before in
@@ -35,7 +27,6 @@ step-running-requires c κs =
     let phase : g .phase ≤ 8189 = cut-phase (g .phase) (g .cycles) 8189 2039 (lit≤ tt) (start .pre .phase-in) in
     (omega arith, omega arith)
 
--- src/lib.rt:303:1
 returns : tie.Need-returns
 returns c =
     let start = c .before .before .before .before in

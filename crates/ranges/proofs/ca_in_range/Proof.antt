@@ -1,24 +1,18 @@
+-- `ranges::ca_in_range` meets its contract.
+-- Assumes nothing.
 use borrow.Author.Needs.{needs}
 use Rattle.ranges.proofs.ca_in_range.Statement.{statement}
 use Rattle.ranges.proofs.ca_in_range.Tie as tie
-use Rattle.ranges.proofs.ca_in_range.Reads as reads
-use Rattle.ranges.proofs.ca_in_range.Lts as lts
-use Rattle.ranges.proofs.generator_in_range.Reads as generator-in-range-reads
-use Rattle.ranges.proofs.plain_in_range.Reads as plain-in-range-reads
 
--- src/lib.rt:52:9
 generator-in-range-requires : tie.Need-generator-in-range-requires
 generator-in-range-requires c κs = search needs
 
--- src/lib.rt:53:9
 generator-in-range-requires-2 : tie.Need-generator-in-range-requires-2
 generator-in-range-requires-2 c κs = search needs
 
--- src/lib.rt:54:5
 plain-in-range-requires : tie.Need-plain-in-range-requires
 plain-in-range-requires c κs = search needs
 
--- src/lib.rt:49:1
 returns : tie.Need-returns
 returns c = simp (c .plain-in-range .ensures, c .before .before .generator-in-range .ensures, c .before .generator-in-range2 .ensures)
 

@@ -1,22 +1,18 @@
+-- `ranges::mode_in_range` meets its contract.
+-- Assumes nothing.
 use borrow.Author.Needs.{needs}
 use Rattle.ranges.proofs.mode_in_range.Statement.{statement}
 use Rattle.ranges.proofs.mode_in_range.Tie as tie
-use Rattle.ranges.proofs.mode_in_range.Reads as reads
-use Rattle.ranges.proofs.mode_in_range.Lts as lts
 
--- src/lib.rt:16:26
 enum-told : tie.Need-enum-told
 enum-told c = search needs
 
--- src/lib.rt:17:20
 enum-known-mode : tie.Need-enum-known-mode
 enum-known-mode c = search needs
 
--- src/lib.rt:12:1
 returns : tie.Need-returns
 returns c = search needs
 
--- src/lib.rt:12:1
 returns-2 : tie.Need-returns-2
 returns-2 c = simp (c .before .mode .given .1)
 

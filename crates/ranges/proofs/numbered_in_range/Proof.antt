@@ -1,25 +1,20 @@
+-- `ranges::numbered_in_range` meets its contract.
+-- Assumes nothing.
+use Prim.Native.Nat.{_≤_}
+use mathlib.Core.Bool.{Bool, true, false, _&&_}
+use mathlib.Core.Path.{_≡_, refl, sym, ap, ap₂, _∙_}
+use native.Mathlib.Omega.{arith}
+use lib.Dec.{leb}
+use borrow.Author.Tests.{leb-true}
+use borrow.Author.Needs.{needs}
 use Rattle.ranges.specs.Plain.{numberedInRange}
 use Rattle.machine.proofs.Numbered.{is-ca, is-p, is-cm, is-cl, is-i5, is-q5}
 use Rattle.machine.specs.declared.Channel.{Channel}
 use Rattle.machine.specs.Machine.{isSignal, inRangeAs}
 use Rattle.machine.specs.Signals.{Signal, signalOf}
-use lib.Dec.{leb}
-use borrow.Author.Tests.{leb-true}
 use Rattle.machine.proofs.Tests.{both-left, both-right}
-use native.Mathlib.Omega.{arith}
-use Prim.Native.Nat.{_≤_}
-use mathlib.Core.Bool.{Bool, true, false, _&&_}
-use mathlib.Core.Path.{_≡_, refl, sym, ap, ap₂, _∙_}
-use borrow.Author.Needs.{needs}
 use Rattle.ranges.proofs.numbered_in_range.Statement.{statement}
 use Rattle.ranges.proofs.numbered_in_range.Tie as tie
-use Rattle.ranges.proofs.numbered_in_range.Reads as reads
-use Rattle.ranges.proofs.numbered_in_range.Lts as lts
-use Rattle.ranges.proofs.ca_in_range.Reads as ca-in-range-reads
-use Rattle.ranges.proofs.cl_in_range.Reads as cl-in-range-reads
-use Rattle.ranges.proofs.cm_in_range.Reads as cm-in-range-reads
-use Rattle.ranges.proofs.l5_in_range.Reads as l5-in-range-reads
-use Rattle.ranges.proofs.p_in_range.Reads as p-in-range-reads
 
 -- the fields by the signal that the number names
 named : (ch : Channel) (r : Bool) {s : Signal} → isSignal (ch .signal) ≡ true → signalOf (ch .signal) (ch .prn) ≡ s → r ≡ inRangeAs s ch
@@ -37,67 +32,54 @@ unlisted ch true e n1 n2 n3 n4 n5 n6 =
     let last : ch .signal ≤ 6 = leb-true _ _ (both-right (leb 1 (ch .signal)) (leb (ch .signal) 6) e) in
     absurd (omega arith)
 
--- src/lib.rt:128:14
 ca-in-range-requires : tie.Need-ca-in-range-requires
 ca-in-range-requires c κs = search needs
 
--- src/lib.rt:129:14
 p-in-range-requires : tie.Need-p-in-range-requires
 p-in-range-requires c κs = search needs
 
--- src/lib.rt:130:14
 cm-in-range-requires : tie.Need-cm-in-range-requires
 cm-in-range-requires c κs = search needs
 
--- src/lib.rt:131:14
 cl-in-range-requires : tie.Need-cl-in-range-requires
 cl-in-range-requires c κs = search needs
 
--- src/lib.rt:132:14
 l5-in-range-requires : tie.Need-l5-in-range-requires
 l5-in-range-requires c κs = search needs
 
--- src/lib.rt:133:14
 l5-in-range-requires-2 : tie.Need-l5-in-range-requires-2
 l5-in-range-requires-2 c κs = search needs
 
--- src/lib.rt:123:1
 returns : tie.Need-returns
 returns c =
     let ch = c .before .before .args .ch in
     named ch _ (rw (c .before .match .keys1)) (is-ca (ch .signal) (ch .prn) (c .before .match .keys1)) (c .ca-in-range .ensures)
 
--- src/lib.rt:123:1
 returns-2 : tie.Need-returns-2
 returns-2 c =
     let ch = c .before .before .args .ch in
     named ch _ (rw (c .before .match .keys2)) (is-p (ch .signal) (ch .prn) (c .before .match .keys2)) (c .p-in-range .ensures)
 
--- src/lib.rt:123:1
 returns-3 : tie.Need-returns-3
 returns-3 c =
     let ch = c .before .before .args .ch in
     named ch _ (rw (c .before .match .keys3)) (is-cm (ch .signal) (ch .prn) (c .before .match .keys3)) (c .cm-in-range .ensures)
 
--- src/lib.rt:123:1
 returns-4 : tie.Need-returns-4
 returns-4 c =
     let ch = c .before .before .args .ch in
     named ch _ (rw (c .before .match .keys4)) (is-cl (ch .signal) (ch .prn) (c .before .match .keys4)) (c .cl-in-range .ensures)
 
--- src/lib.rt:123:1
 returns-5 : tie.Need-returns-5
 returns-5 c =
     let ch = c .before .before .args .ch in
     named ch _ (rw (c .before .match .keys5)) (is-i5 (ch .signal) (ch .prn) (c .before .match .keys5)) (c .l5-in-range .ensures)
 
--- src/lib.rt:123:1
 returns-6 : tie.Need-returns-6
 returns-6 c =
     let ch = c .before .before .args .ch in
     named ch _ (rw (c .before .match .keys6)) (is-q5 (ch .signal) (ch .prn) (c .before .match .keys6)) (c .l5-in-range2 .ensures)
 
--- src/lib.rt:123:1
 returns-7 : tie.Need-returns-7
 returns-7 c =
     let ch = c .before .args .ch in

@@ -1,27 +1,21 @@
+-- `ranges::p_in_range` meets its contract.
+-- Assumes nothing.
 use borrow.Author.Needs.{needs}
 use Rattle.ranges.proofs.p_in_range.Statement.{statement}
 use Rattle.ranges.proofs.p_in_range.Tie as tie
-use Rattle.ranges.proofs.p_in_range.Reads as reads
-use Rattle.ranges.proofs.p_in_range.Lts as lts
-use Rattle.ranges.proofs.generator_in_range.Reads as generator-in-range-reads
 
--- src/lib.rt:60:9
 generator-in-range-requires : tie.Need-generator-in-range-requires
 generator-in-range-requires c κs = search needs
 
--- src/lib.rt:67:9
 generator-in-range-requires-2 : tie.Need-generator-in-range-requires-2
 generator-in-range-requires-2 c κs = search needs
 
--- src/lib.rt:74:9
 generator-in-range-requires-3 : tie.Need-generator-in-range-requires-3
 generator-in-range-requires-3 c κs = search needs
 
--- src/lib.rt:81:9
 generator-in-range-requires-4 : tie.Need-generator-in-range-requires-4
 generator-in-range-requires-4 c κs = search needs
 
--- src/lib.rt:57:1
 returns : tie.Need-returns
 returns c =
     let tests = c .before .before .before in

@@ -1,78 +1,57 @@
-use Rattle.machine.proofs.Numbered.{is-ca, is-p, is-cm, is-cl, is-i5, is-q5, is-sixth, chip-is}
-use native.Mathlib.Omega.{arith}
-use mathlib.Core.Path.{_≡_, _∙_, sym}
-use Prim.Native.Nat.{_≤_}
+-- `steps::chip_of` meets its contract.
+-- Assumes nothing.
+use mathlib.Core.Path.{_∙_, sym}
 use borrow.Author.Needs.{needs}
+use Rattle.machine.proofs.Numbered.{is-ca, is-p, is-cm, is-cl, is-i5, is-q5, is-sixth, chip-is}
 use Rattle.steps.proofs.chip_of.Statement.{statement}
 use Rattle.steps.proofs.chip_of.Tie as tie
-use Rattle.steps.proofs.chip_of.Reads as reads
-use Rattle.steps.proofs.chip_of.Lts as lts
-use Rattle.starts.proofs.stages_ca.Reads as stages-ca-reads
-use Rattle.steps.proofs.chip_ca.Reads as chip-ca-reads
-use Rattle.steps.proofs.chip_cl.Reads as chip-cl-reads
-use Rattle.steps.proofs.chip_cm.Reads as chip-cm-reads
-use Rattle.steps.proofs.chip_l5.Reads as chip-l5-reads
-use Rattle.steps.proofs.chip_p.Reads as chip-p-reads
 
--- src/lib.rt:75:26
 stages-ca-requires : tie.Need-stages-ca-requires
 stages-ca-requires c κs = search needs
 
--- src/lib.rt:75:14
 chip-ca-requires : tie.Need-chip-ca-requires
 chip-ca-requires c κs = search needs
 
--- src/lib.rt:76:14
 chip-p-requires : tie.Need-chip-p-requires
 chip-p-requires c κs = search needs
 
--- src/lib.rt:77:14
 chip-cm-requires : tie.Need-chip-cm-requires
 chip-cm-requires c κs = search needs
 
--- src/lib.rt:78:14
 chip-cl-requires : tie.Need-chip-cl-requires
 chip-cl-requires c κs = search needs
 
--- src/lib.rt:79:14
 chip-l5-requires : tie.Need-chip-l5-requires
 chip-l5-requires c κs = search needs
 
--- src/lib.rt:80:14
 chip-l5-requires-2 : tie.Need-chip-l5-requires-2
 chip-l5-requires-2 c κs = search needs
 
--- src/lib.rt:69:1
 returns : tie.Need-returns
 returns c =
     let ch = c .before .before .before .args .ch in
     c .chip-ca .ensures ∙ sym (chip-is ch (is-ca (ch .signal) (ch .prn) (c .before .before .match .keys1)))
 
--- src/lib.rt:69:1
 returns-2 : tie.Need-returns-2
 returns-2 c =
     let ch = c .before .before .args .ch in
     c .chip-p .ensures ∙ sym (chip-is ch (is-p (ch .signal) (ch .prn) (c .before .match .keys2)))
 
--- src/lib.rt:69:1
 returns-3 : tie.Need-returns-3
 returns-3 c =
     let ch = c .before .before .args .ch in
     c .chip-cm .ensures ∙ sym (chip-is ch (is-cm (ch .signal) (ch .prn) (c .before .match .keys3)))
 
--- src/lib.rt:69:1
 returns-4 : tie.Need-returns-4
 returns-4 c =
     let ch = c .before .before .args .ch in
     c .chip-cl .ensures ∙ sym (chip-is ch (is-cl (ch .signal) (ch .prn) (c .before .match .keys4)))
 
--- src/lib.rt:69:1
 returns-5 : tie.Need-returns-5
 returns-5 c =
     let ch = c .before .before .args .ch in
     c .chip-l5 .ensures ∙ sym (chip-is ch (is-i5 (ch .signal) (ch .prn) (c .before .match .keys5)))
 
--- src/lib.rt:69:1
 returns-6 : tie.Need-returns-6
 returns-6 c =
     let ch = c .before .before .args .ch in

@@ -1,48 +1,37 @@
-use Rattle.registers.specs.Register.{stage}
+-- `steps::chip_p` meets its contract.
+-- Assumes nothing.
 use borrow.Author.Needs.{needs}
+use Rattle.registers.specs.Register.{stage}
 use Rattle.steps.proofs.chip_p.Statement.{statement}
 use Rattle.steps.proofs.chip_p.Tie as tie
-use Rattle.steps.proofs.chip_p.Reads as reads
-use Rattle.steps.proofs.chip_p.Lts as lts
-use Rattle.steps.proofs.stage_of.Reads as stage-of-reads
 
--- src/lib.rt:44:14
 stage-of-requires : tie.Need-stage-of-requires
 stage-of-requires c κs = search needs
 
--- src/lib.rt:44:48
 stage-of-requires-2 : tie.Need-stage-of-requires-2
 stage-of-requires-2 c κs = search needs
 
--- src/lib.rt:44:14
 add-x1 : tie.Need-add-x1
 add-x1 c = search needs
 
--- src/lib.rt:45:28
 sub-x2 : tie.Need-sub-x2
 sub-x2 c = search needs
 
--- src/lib.rt:45:28
 cast-x2 : tie.Need-cast-x2
 cast-x2 c = search needs
 
--- src/lib.rt:45:15
 shr-x2 : tie.Need-shr-x2
 shr-x2 c = search needs
 
--- src/lib.rt:46:12
 cast-result : tie.Need-cast-result
 cast-result c = search needs
 
--- src/lib.rt:46:7
 add-result : tie.Need-add-result
 add-result c = search needs
 
--- src/lib.rt:46:5
 cast-result-2 : tie.Need-cast-result-2
 cast-result-2 c = search needs
 
--- src/lib.rt:40:1
 returns : tie.Need-returns
 unfolding stage
 returns c = rw (c .before .before .before .stage-of .ensures .0, c .before .before .stage-of2 .ensures .0)

@@ -1,28 +1,21 @@
-use Rattle.steps.proofs.PlainSteps.{plain-is}
-use Rattle.machine.specs.Signals.{g1, g2, signalCA}
+-- `steps::step_ca` meets its contract.
+-- Assumes nothing.
 use mathlib.Core.Path.{_∙_}
 use borrow.Author.Needs.{needs}
+use Rattle.steps.proofs.PlainSteps.{plain-is}
+use Rattle.machine.specs.Signals.{g1, g2, signalCA}
 use Rattle.steps.proofs.step_ca.Statement.{statement}
 use Rattle.steps.proofs.step_ca.Tie as tie
-use Rattle.steps.proofs.step_ca.Reads as reads
-use Rattle.steps.proofs.step_ca.Lts as lts
-use Rattle.generators.proofs.step_g1.Reads as step-g1-reads
-use Rattle.generators.proofs.step_g2.Reads as step-g2-reads
-use Rattle.steps.proofs.plain_step.Reads as plain-step-reads
 
--- src/lib.rt:164:9
 step-g1-requires : tie.Need-step-g1-requires
 step-g1-requires c κs = search needs
 
--- src/lib.rt:165:9
 step-g2-requires : tie.Need-step-g2-requires
 step-g2-requires c κs = search needs
 
--- src/lib.rt:166:5
 plain-step-requires : tie.Need-plain-step-requires
 plain-step-requires c κs = search needs
 
--- src/lib.rt:160:1
 returns : tie.Need-returns
 returns c =
     let start = c .before .before .before in

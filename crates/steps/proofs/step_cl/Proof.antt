@@ -1,25 +1,20 @@
-use Rattle.steps.proofs.PlainSteps.{plain-is}
-use Rattle.machine.proofs.Running.{lacking-stays}
-use Rattle.machine.specs.Signals.{none, cl, chipCL}
+-- `steps::step_cl` meets its contract.
+-- Assumes nothing.
 use mathlib.Core.Bool.{false}
 use mathlib.Core.Path.{_∙_}
 use borrow.Author.Needs.{needs}
+use Rattle.steps.proofs.PlainSteps.{plain-is}
+use Rattle.machine.proofs.Running.{lacking-stays}
+use Rattle.machine.specs.Signals.{none, cl, chipCL}
 use Rattle.steps.proofs.step_cl.Statement.{statement}
 use Rattle.steps.proofs.step_cl.Tie as tie
-use Rattle.steps.proofs.step_cl.Reads as reads
-use Rattle.steps.proofs.step_cl.Lts as lts
-use Rattle.generators.proofs.step_cl.Reads as step-cl-reads
-use Rattle.steps.proofs.plain_step.Reads as plain-step-reads
 
--- src/lib.rt:185:9
 step-cl-requires : tie.Need-step-cl-requires
 step-cl-requires c κs = search needs
 
--- src/lib.rt:186:5
 plain-step-requires : tie.Need-plain-step-requires
 plain-step-requires c κs = search needs
 
--- src/lib.rt:179:1
 returns : tie.Need-returns
 returns c =
     let start = c .before .before .before in

@@ -1,29 +1,22 @@
+-- `steps::step_i5` meets its contract.
+-- Assumes nothing.
+use mathlib.Core.Path.{_∙_}
+use borrow.Author.Needs.{needs}
 use Rattle.steps.proofs.PlainSteps.{plain-is}
 use Rattle.machine.specs.Signals.{xa, xb, chipL5}
 use Rattle.starts.specs.Starts.{startI5}
-use mathlib.Core.Path.{_∙_}
-use borrow.Author.Needs.{needs}
 use Rattle.steps.proofs.step_i5.Statement.{statement}
 use Rattle.steps.proofs.step_i5.Tie as tie
-use Rattle.steps.proofs.step_i5.Reads as reads
-use Rattle.steps.proofs.step_i5.Lts as lts
-use Rattle.generators.proofs.step_xa.Reads as step-xa-reads
-use Rattle.generators.proofs.step_xb_i5.Reads as step-xb-i5-reads
-use Rattle.steps.proofs.plain_step.Reads as plain-step-reads
 
--- src/lib.rt:194:9
 step-xa-requires : tie.Need-step-xa-requires
 step-xa-requires c κs = search needs
 
--- src/lib.rt:195:9
 step-xb-i5-requires : tie.Need-step-xb-i5-requires
 step-xb-i5-requires c κs = search needs
 
--- src/lib.rt:196:5
 plain-step-requires : tie.Need-plain-step-requires
 plain-step-requires c κs = search needs
 
--- src/lib.rt:189:1
 returns : tie.Need-returns
 returns c =
     let start = c .before .before .before in

@@ -1,29 +1,22 @@
+-- `steps::step_q5` meets its contract.
+-- Assumes nothing.
+use mathlib.Core.Path.{_∙_}
+use borrow.Author.Needs.{needs}
 use Rattle.steps.proofs.PlainSteps.{plain-is}
 use Rattle.machine.specs.Signals.{xa, xb, chipL5}
 use Rattle.starts.specs.Starts.{startQ5}
-use mathlib.Core.Path.{_∙_}
-use borrow.Author.Needs.{needs}
 use Rattle.steps.proofs.step_q5.Statement.{statement}
 use Rattle.steps.proofs.step_q5.Tie as tie
-use Rattle.steps.proofs.step_q5.Reads as reads
-use Rattle.steps.proofs.step_q5.Lts as lts
-use Rattle.generators.proofs.step_xa.Reads as step-xa-reads
-use Rattle.generators.proofs.step_xb_q5.Reads as step-xb-q5-reads
-use Rattle.steps.proofs.plain_step.Reads as plain-step-reads
 
--- src/lib.rt:204:9
 step-xa-requires : tie.Need-step-xa-requires
 step-xa-requires c κs = search needs
 
--- src/lib.rt:205:9
 step-xb-q5-requires : tie.Need-step-xb-q5-requires
 step-xb-q5-requires c κs = search needs
 
--- src/lib.rt:206:5
 plain-step-requires : tie.Need-plain-step-requires
 plain-step-requires c κs = search needs
 
--- src/lib.rt:199:1
 returns : tie.Need-returns
 returns c =
     let start = c .before .before .before in
