@@ -1,13 +1,14 @@
 -- The signals of the stepped machine, each as one record of constants: document 01, "Signals and places" and "The stepped machine".
 -- Assumes nothing.
 use Prim.Native.Nat.{ℕ, _+_, _-_, _%_, _^_}
-use mathlib.Core.Bool.{true, false, cond}
+use mathlib.Core.Bool.{Bool, true, false, cond}
 use mathlib.Core.List.{List, [], _∷_}
 use lib.Dec.{eqb}
-use lib.ListN.{getD, length}
+use lib.ListN.{getD}
 use Rattle.registers.specs.Register.{stage, shiftG1, shiftG2, shiftX1A, shiftX1B, shiftX2A, shiftX2B, shiftXA, shiftXB, shiftL2}
 use Rattle.starts.specs.Starts.{startG1, startG2, startX1A, startX1B, startX2A, startX2B, startXA, startCM, startCL, startI5, startQ5, stagesOf}
 use Rattle.machine.specs.Generators.{Kind, heldAt, heldAtEnd, neverHeld}
+use Rattle.machine.specs.declared.Mode.{Mode}
 use Rattle.machine.specs.declared.Channel.{Channel}
 
 -- The constants of a signal of a PRN.
@@ -29,23 +30,20 @@ pub record Signal : Type 0 where
 
 -- ---- forms of a generator
 
--- never held, with cycles of one length
-abbrev pub steady : ℕ → (ℕ → ℕ) → ℕ → ℕ → ℕ → Kind
-steady width shift start length highest =
-    record { width = width; shift = shift; start = start; last = λ c. length - 1; highest = highest; holds = false; arrival = neverHeld }
+-- held at times, with cycles of so many chips
+abbrev pub holding : ℕ → (ℕ → ℕ) → ℕ → ℕ → ℕ → (Bool → ℕ → ℕ → Mode) → Kind
+holding width shift start cycle highest arrival =
+    record { width = width; shift = shift; start = start; last = λ c. cycle - 1; highest = highest; holds = true; arrival = arrival }
 
--- never held, with two cycles, the second cut short at a last phase of its own
+-- never held, with cycles of so many chips
+abbrev pub steady : ℕ → (ℕ → ℕ) → ℕ → ℕ → ℕ → Kind
+steady width shift start cycle highest =
+    record { width = width; shift = shift; start = start; last = λ c. cycle - 1; highest = highest; holds = false; arrival = neverHeld }
+
+-- never held, with a second cycle that is cut short at a last phase of its own
 abbrev pub cut : ℕ → (ℕ → ℕ) → ℕ → ℕ → ℕ → Kind
-cut width shift start length lastCut =
-    record {
-      width = width;
-      shift = shift;
-      start = start;
-      last = λ c. cond (eqb c 1) lastCut (length - 1);
-      highest = 1;
-      holds = false;
-      arrival = neverHeld;
-    }
+cut width shift start cycle lastCut =
+    record { width = width; shift = shift; start = start; last = λ c. cond (eqb c 1) lastCut (cycle - 1); highest = 1; holds = false; arrival = neverHeld }
 
 -- A generator that the signal lacks has no stage, and cycles of one chip: "Fields that a signal doesn't have are 0 and running."
 abbrev pub none : Kind
@@ -88,42 +86,15 @@ x1a = steady 12 shiftX1A startX1A 4092 3749
 
 -- "X1B that so arrives at phase 4,092 in cycles 3,748 becomes held with 343"
 abbrev pub x1b : Kind
-x1b =
-    record {
-      width = 12;
-      shift = shiftX1B;
-      start = startX1B;
-      last = λ c. 4093 - 1;
-      highest = 3748;
-      holds = true;
-      arrival = λ weekEnd. heldAt 4092 3748 343;
-    }
+x1b = holding 12 shiftX1B startX1B 4093 3748 (λ weekEnd. heldAt 4092 3748 343)
 
 -- "X2A at phase 4,091 in cycles 3,749 with 37. .. X2A arriving at 4,091 in any cycle becomes held with 1,069"
 abbrev pub x2a : Kind
-x2a =
-    record {
-      width = 12;
-      shift = shiftX2A;
-      start = startX2A;
-      last = λ c. 4092 - 1;
-      highest = 3749;
-      holds = true;
-      arrival = heldAtEnd 4091 3749 37 1069;
-    }
+x2a = holding 12 shiftX2A startX2A 4092 3749 (heldAtEnd 4091 3749 37 1069)
 
 -- "X2B there with 380; .. and X2B arriving at 4,092 with 965"
 abbrev pub x2b : Kind
-x2b =
-    record {
-      width = 12;
-      shift = shiftX2B;
-      start = startX2B;
-      last = λ c. 4093 - 1;
-      highest = 3748;
-      holds = true;
-      arrival = heldAtEnd 4092 3748 380 965;
-    }
+x2b = holding 12 shiftX2B startX2B 4093 3748 (heldAtEnd 4092 3748 380 965)
 
 -- "P of PRN i: X1A plus X1B plus bit i - 1 of the delay line", bit i - 1 being stage i
 abbrev pub chipP : ℕ → Channel → ℕ
