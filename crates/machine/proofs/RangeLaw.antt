@@ -110,11 +110,11 @@ plain-sound : (week : ℕ) {first second : Kind} (chip : Channel → ℕ) → 0 
 plain-sound week chip h a b =
     record { week-sound = h; line-sound = lit< tt; first-sound = a; second-sound = b; third-sound = none-sound; fourth-sound = none-sound }
 
-ca-sound : (prn : ℕ) → SoundSignal (signalCA prn)
+pub ca-sound : (prn : ℕ) → SoundSignal (signalCA prn)
 ca-sound prn =
     plain-sound _ _ (lit< tt) (sound g1 shifts.g1 (lit< tt) (λ e p c. refl)) (sound g2 shifts.g2 (lit< tt) (λ e p c. refl))
 
-p-sound : (prn : ℕ) → SoundSignal (signalP prn)
+pub p-sound : (prn : ℕ) → SoundSignal (signalP prn)
 p-sound prn =
     record {
       week-sound = lit< tt;
@@ -125,13 +125,13 @@ p-sound prn =
       fourth-sound = sound x2b shifts.x2b (lit< tt) (λ e p c. held-at-end-in 4092 3748 380 965 e p c (lit≤ tt) (lit≤ tt));
     }
 
-cm-sound : (prn : ℕ) → SoundSignal (signalCM prn)
+pub cm-sound : (prn : ℕ) → SoundSignal (signalCM prn)
 cm-sound prn = plain-sound _ _ (lit< tt) (sound (cm prn) shifts.l2 (start-cm-in prn) (λ e p c. refl)) none-sound
 
-cl-sound : (prn : ℕ) → SoundSignal (signalCL prn)
+pub cl-sound : (prn : ℕ) → SoundSignal (signalCL prn)
 cl-sound prn = plain-sound _ _ (lit< tt) none-sound (sound (cl prn) shifts.l2 (start-cl-in prn) (λ e p c. refl))
 
-l5-sound : (start : ℕ) → start < 2 ^ 13 → SoundSignal (plain 6187104000000 xa (xb start) chipL5)
+pub l5-sound : (start : ℕ) → start < 2 ^ 13 → SoundSignal (plain 6187104000000 xa (xb start) chipL5)
 l5-sound start h =
     plain-sound _ _ (lit< tt) (sound xa shifts.xa (lit< tt) (λ e p c. refl)) (sound (xb start) shifts.xb h (λ e p c. refl))
 
@@ -150,7 +150,7 @@ sound-of n prn = sound-at (n - 1) prn
 
 -- ---- the channel
 
-step-as-in : (s : Signal) (ch : Channel) → SoundSignal s → RangedAs s ch → RangedAs s (stepAs s ch)
+pub step-as-in : (s : Signal) (ch : Channel) → SoundSignal s → RangedAs s ch → RangedAs s (stepAs s ch)
 step-as-in s ch sound r =
     record {
       place-in = next-place-in (s .week) (ch .place) (r .place-in);
@@ -165,7 +165,7 @@ step-as-in s ch sound r =
       fourth-in = generator-in (s .fourth) (sound .fourth-sound) _ (ch .fourth) (r .fourth-in);
     }
 
-opened-as-in : (s : Signal) (n prn : ℕ) → SoundSignal s → RangedAs s (openedAs s n prn)
+pub opened-as-in : (s : Signal) (n prn : ℕ) → SoundSignal s → RangedAs s (openedAs s n prn)
 opened-as-in s n prn sound =
     record {
       place-in = sound .week-sound;

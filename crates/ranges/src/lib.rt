@@ -4,7 +4,7 @@ ghost use mathlib.Core.Bool.{false};
 ghost use Rattle.machine.specs.Generators.{modeInRange, fieldsInRange};
 ghost use Rattle.machine.specs.Signals.{signalCA, signalP, signalCM, signalCL, signalI5};
 ghost use Rattle.machine.specs.Machine.{isSignal, isPrn, inRangeAs, inRange};
-ghost use Rattle.ranges.specs.Plain.{plainInRange, numberedInRange};
+ghost use Rattle.ranges.specs.Inner.{plainInRange, numberedInRange};
 use machine::Channel;
 use machine::Generator;
 use machine::Mode;

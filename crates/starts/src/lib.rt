@@ -1,8 +1,9 @@
 // Where each register starts, and the two stages of G2 that a PRN's C/A code adds. A table is written anew wherever it is named, so each is named
 // once, in the function that reads a PRN's entry.
 ghost use mathlib.Core.Path.{_≡_};
+ghost use Prim.Native.Nat.{_<_};
 ghost use Rattle.starts.specs.Starts.{Listed, startG1, startG2, startXA, startX1A, startX1B, startX2A, startX2B};
-ghost use Rattle.starts.specs.Pairs.{pairsOf};
+ghost use Rattle.starts.specs.Inner.{Pairs};
 ghost use Rattle.starts.specs.Starts.{stagesOf, startCM, startCL, startI5, startQ5};
 
 mod tables;
@@ -58,7 +59,8 @@ pub fn start_x2b() -> u32
 // The pairs of stages of eight PRNs, from PRN 8 n + 1 on, in hexadecimal digits as document 01 lists them. They are needed at each C/A chip,
 // and numbers, unlike a table, cost nothing where they are named.
 fn pairs(n: u32) -> u64
-    ensures { λ r. ⌜ r ≡ pairsOf n ⌝ }
+    requires { ⌜ n < 5 ⌝ }
+    ensures { λ r. ⌜ Pairs n r ⌝ }
 {
     match n {
         0 => 0x26_37_48_59_19_2a_18_29,

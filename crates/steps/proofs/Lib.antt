@@ -1,1 +1,1 @@
-pub mod PlainSteps
+pub mod InnerSteps

@@ -12,7 +12,7 @@ use Rattle.machine.specs.Ranged.{RangedAs}
 use Rattle.machine.specs.declared.Generator.{Generator}
 use Rattle.machine.specs.declared.Channel.{Channel}
 use Rattle.machine.proofs.Running.{lacking-stays}
-use Rattle.steps.specs.Plain.{plainStep}
+use Rattle.steps.specs.Inner.{plainStep}
 
 no-epoch : (before after : Generator) (n : ℕ) → n ≤ 0 → n ≡ nextEpoch 0 before after n
 no-epoch before after n h =

@@ -7,7 +7,7 @@ ghost use Rattle.machine.specs.Generators.{upTo};
 ghost use Rattle.machine.specs.Signals.{signalCA, signalP, signalCM, signalCL, signalI5, signalQ5, chipCA, chipP, chipCM, chipCL, chipL5};
 ghost use Rattle.machine.specs.Machine.{nextEpoch, nextLine, stepAs, step, chip};
 ghost use Rattle.machine.specs.Ranged.{RangedAs, Ranged};
-ghost use Rattle.steps.specs.Plain.{plainStep};
+ghost use Rattle.steps.specs.Inner.{plainStep};
 use machine::Channel;
 use machine::Generator;
 use starts::Stages;

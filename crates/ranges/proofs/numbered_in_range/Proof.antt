@@ -7,7 +7,7 @@ use native.Mathlib.Omega.{arith}
 use lib.Dec.{leb}
 use borrow.Author.Tests.{leb-true}
 use borrow.Author.Needs.{needs}
-use Rattle.ranges.specs.Plain.{numberedInRange}
+use Rattle.ranges.specs.Inner.{numberedInRange}
 use Rattle.machine.proofs.Numbered.{is-ca, is-p, is-cm, is-cl, is-i5, is-q5}
 use Rattle.machine.specs.declared.Channel.{Channel}
 use Rattle.machine.specs.Machine.{isSignal, inRangeAs}

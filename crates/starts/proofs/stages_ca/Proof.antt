@@ -1,28 +1,22 @@
--- `starts::stages_ca` meets its contract: the code's pairs of stages are document 01's, digit for digit.
+-- `starts::stages_ca` meets its contract.
 -- Assumes nothing.
-use Prim.Native.Nat.{ℕ, _+_, _-_, _*_, _/_, _%_, _^_, _<_}
-use mathlib.Core.Path.{_≡_, _∙_}
+use Prim.Native.Nat.{ℕ, _+_, _-_, _*_, _/_, _%_, _≤_}
+use mathlib.Core.Path.{_≡_, ap, _∙_}
 use native.Mathlib.Omega.{arith}
 use lib.ListN.{getD}
 use borrow.Author.Needs.{needs}
-use Rattle.registers.proofs.Below.{equal-at}
-use Rattle.starts.specs.Pairs.{pairsOf}
 use Rattle.starts.specs.Starts.{stagesOf, stagesCA}
+use Rattle.starts.specs.Inner.{pairAt}
 use Rattle.starts.specs.declared.Stages.{Stages}
+use Rattle.starts.proofs.Ranges.{second-in}
 use Rattle.starts.proofs.stages_ca.Statement.{statement}
 use Rattle.starts.proofs.stages_ca.Tie as tie
 
--- two digits of a number of sixteen, the leftmost two for 0
-abbrev pair : ℕ → ℕ → ℕ
-pair digits n = digits / 2 ^ (56 - n % 8 * 8) % 256
-
-unpacked : (n : ℕ) → n < 37
-    → _≡_ {A = Stages} (record { first = pair (pairsOf (n / 8)) n / 16; second = pair (pairsOf (n / 8)) n % 16 })
-    (record { first = getD stagesCA (n * 2) 0; second = getD stagesCA (n * 2 + 1) 0 })
-unfolding stagesCA
-unpacked n h =
-    let one = equal-at 37 (λ m. pair (pairsOf (m / 8)) m / 16) (λ m. getD stagesCA (m * 2) 0) tt n h in
-    let two = equal-at 37 (λ m. pair (pairsOf (m / 8)) m % 16) (λ m. getD stagesCA (m * 2 + 1) 0) tt n h in
+-- two digits are told apart by their sum
+unpacked : (pair a b : ℕ) → b ≤ 10 → pair ≡ a * 16 + b → _≡_ {A = Stages} (record { first = pair / 16; second = pair % 16 }) (record { first = a; second = b })
+unpacked pair a b h e =
+    let one : pair / 16 ≡ a = omega arith in
+    let two : pair % 16 ≡ b = omega arith in
     λ j. record { first = one j; second = two j }
 
 sub-n : tie.Need-sub-n
@@ -50,11 +44,13 @@ cast-t8 : tie.Need-cast-t8
 cast-t8 c = search needs
 
 returns : tie.Need-returns
-unfolding stagesOf
+unfolding stagesOf pairAt
 returns c =
-    let n = c .before .args .prn - 1 in
-    (λ j. record { first = pair (c .pairs .ensures j) n / 16; second = pair (c .pairs .ensures j) n % 16 })
-    ∙ unpacked n (omega arith)
+    let prn = c .before .args .prn in
+    let n = prn - 1 in
+    let place : n / 8 * 8 + n % 8 ≡ n = omega arith in
+    let pair = c .pairs .ensures .pair (n % 8) (omega arith) ∙ ap pairAt place in
+    unpacked _ (getD stagesCA (n * 2) 0) (getD stagesCA (n * 2 + 1) 0) (second-in prn (c .before .pre) .last) pair
 
 pub stages-ca-spec : {M : Type 1} → statement M
 stages-ca-spec =
