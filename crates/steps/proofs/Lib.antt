@@ -1,1 +1,1 @@
-pub mod InnerSteps
+pub mod PlainSteps
