@@ -1,10 +1,8 @@
-// One step of each generator. A generator that is never held has no test of its mode, and a start that depends on the PRN is looked up only
-// where a cycle ends: no table is read in the steps between.
+// One step of each generator, given that generator alone. One that is never held has no test of its mode. A start that depends on the PRN is handed
+// in, so that no table is read here.
 ghost use mathlib.Core.Path.{_≡_};
-ghost use mathlib.Core.Bool.{cond, false};
+ghost use mathlib.Core.Bool.{false};
 ghost use Prim.Native.Nat.{_<_, _^_};
-ghost use lib.Dec.{eqb};
-ghost use Rattle.starts.specs.Starts.{Listed, startI5, startQ5};
 ghost use Rattle.machine.specs.declared.Mode.the-variants.{Running};
 ghost use Rattle.machine.specs.Generators.{fresh, restarted, moved, heldWith, stepIn, stepGenerator, heldAt, heldAtEnd};
 ghost use Rattle.machine.specs.Signals.{g1, g2, x1a, x1b, x2a, x2b, cm, cl, xa, xb};
@@ -269,33 +267,35 @@ pub fn step_x2b(g: Generator, week_end: bool) -> Generator
     )
 }
 
-// ---- L2 CM and L2 CL
+// ---- L2 CM and L2 CL, from their starts
 
-pub fn step_cm(g: Generator, prn: u32) -> Generator
-    requires { ⌜ Listed 37 prn ⌝ }
-    requires { ⌜ RangedKind (cm prn) g ⌝ }
-    ensures { λ r. ⌜ r ≡ stepGenerator (cm prn) false g ⌝ }
+pub fn step_cm(g: Generator, start: u32) -> Generator
+    requires { ⌜ RangedKind (cm start) g ⌝ }
+    ensures { λ r. ⌜ r ≡ stepGenerator (cm start) false g ⌝ }
 {
-    if g.phase == machine::LAST_CM {
-        restart(g, starts::start_cm(prn), 0)
-    } else {
-        move_on(g, registers::shift_l2(g.register), Mode::Running)
-    }
+    step_running(
+        g,
+        registers::shift_l2(g.register),
+        start,
+        machine::LAST_CM,
+        0,
+    )
 }
 
-pub fn step_cl(g: Generator, prn: u32) -> Generator
-    requires { ⌜ Listed 37 prn ⌝ }
-    requires { ⌜ RangedKind (cl prn) g ⌝ }
-    ensures { λ r. ⌜ r ≡ stepGenerator (cl prn) false g ⌝ }
+pub fn step_cl(g: Generator, start: u32) -> Generator
+    requires { ⌜ RangedKind (cl start) g ⌝ }
+    ensures { λ r. ⌜ r ≡ stepGenerator (cl start) false g ⌝ }
 {
-    if g.phase == machine::LAST_CL {
-        restart(g, starts::start_cl(prn), 0)
-    } else {
-        move_on(g, registers::shift_l2(g.register), Mode::Running)
-    }
+    step_running(
+        g,
+        registers::shift_l2(g.register),
+        start,
+        machine::LAST_CL,
+        0,
+    )
 }
 
-// ---- I5 and Q5
+// ---- I5 and Q5, XB from its start
 
 // The last phase of XA's cycle, of which the second is cut short.
 pub fn last_xa(cycles: u32) -> u32
@@ -325,28 +325,10 @@ pub fn step_xa(g: Generator) -> Generator
     )
 }
 
-// XB of I5.
-pub fn step_xb_i5(g: Generator, prn: u32) -> Generator
-    requires { ⌜ Listed 37 prn ⌝ }
-    requires { ⌜ RangedKind (xb (startI5 prn)) g ⌝ }
-    ensures { λ r. ⌜ r ≡ stepGenerator (xb (startI5 prn)) false g ⌝ }
+pub fn step_xb(g: Generator, start: u32) -> Generator
+    requires { ⌜ RangedKind (xb start) g ⌝ }
+    ensures { λ r. ⌜ r ≡ stepGenerator (xb start) false g ⌝ }
 {
-    if g.phase == last_xb(g.cycles) {
-        restart(g, starts::start_i5(prn), machine::HIGHEST_XB)
-    } else {
-        move_on(g, registers::shift_xb(g.register), Mode::Running)
-    }
-}
-
-// XB of Q5.
-pub fn step_xb_q5(g: Generator, prn: u32) -> Generator
-    requires { ⌜ Listed 37 prn ⌝ }
-    requires { ⌜ RangedKind (xb (startQ5 prn)) g ⌝ }
-    ensures { λ r. ⌜ r ≡ stepGenerator (xb (startQ5 prn)) false g ⌝ }
-{
-    if g.phase == last_xb(g.cycles) {
-        restart(g, starts::start_q5(prn), machine::HIGHEST_XB)
-    } else {
-        move_on(g, registers::shift_xb(g.register), Mode::Running)
-    }
+    let shifted = registers::shift_xb(g.register);
+    step_running(g, shifted, start, last_xb(g.cycles), machine::HIGHEST_XB)
 }

@@ -18,8 +18,8 @@ use Rattle.registers.proofs.Shifts as shifts
 use Rattle.starts.specs.Starts.{Listed}
 use Rattle.starts.proofs.Ranges.{start-cm-in, start-cl-in, start-i5-in, start-q5-in}
 use Rattle.machine.specs.Generators.{Kind, fresh, upTo, stepIn, stepGenerator, modeInRange, heldAt, heldAtEnd}
-use Rattle.machine.specs.Signals.{Signal, none, plain, g1, g2, x1a, x1b, x2a, x2b, cm, cl, xa, xb, chipL5}
-use Rattle.machine.specs.Signals.{signalCA, signalP, signalCM, signalCL, signals, noSignal, signalOf}
+use Rattle.machine.specs.Signals.{Signal, none, plain, g1, g2, x1a, x1b, x2a, x2b, cm, cl, xa, xb}
+use Rattle.machine.specs.Signals.{signalCA, signalP, fromCM, fromCL, fromL5, signals, noSignal, signalOf}
 use Rattle.machine.specs.Machine.{returned, stepAs, step, advance, openedAs, opened, inRange}
 use Rattle.machine.specs.Ranged.{RangedKind, RangedAs, Ranged}
 use Rattle.machine.specs.declared.Mode.{Mode}
@@ -125,13 +125,13 @@ p-sound prn =
       fourth-sound = sound x2b shifts.x2b (lit< tt) (λ e p c. held-at-end-in 4092 3748 380 965 e p c (lit≤ tt) (lit≤ tt));
     }
 
-pub cm-sound : (prn : ℕ) → SoundSignal (signalCM prn)
-cm-sound prn = plain-sound _ _ (lit< tt) (sound (cm prn) shifts.l2 (start-cm-in prn) (λ e p c. refl)) none-sound
+pub cm-sound : (start : ℕ) → start < 2 ^ 27 → SoundSignal (fromCM start)
+cm-sound start h = plain-sound _ _ (lit< tt) (sound (cm start) shifts.l2 h (λ e p c. refl)) none-sound
 
-pub cl-sound : (prn : ℕ) → SoundSignal (signalCL prn)
-cl-sound prn = plain-sound _ _ (lit< tt) none-sound (sound (cl prn) shifts.l2 (start-cl-in prn) (λ e p c. refl))
+pub cl-sound : (start : ℕ) → start < 2 ^ 27 → SoundSignal (fromCL start)
+cl-sound start h = plain-sound _ _ (lit< tt) none-sound (sound (cl start) shifts.l2 h (λ e p c. refl))
 
-pub l5-sound : (start : ℕ) → start < 2 ^ 13 → SoundSignal (plain 6187104000000 xa (xb start) chipL5)
+pub l5-sound : (start : ℕ) → start < 2 ^ 13 → SoundSignal (fromL5 start)
 l5-sound start h =
     plain-sound _ _ (lit< tt) (sound xa shifts.xa (lit< tt) (λ e p c. refl)) (sound (xb start) shifts.xb h (λ e p c. refl))
 
@@ -139,8 +139,8 @@ l5-sound start h =
 sound-at : (k prn : ℕ) → SoundSignal (getD (signals prn) k noSignal)
 sound-at zero prn = ca-sound prn
 sound-at (suc zero) prn = p-sound prn
-sound-at (suc (suc zero)) prn = cm-sound prn
-sound-at (suc (suc (suc zero))) prn = cl-sound prn
+sound-at (suc (suc zero)) prn = cm-sound _ (start-cm-in prn)
+sound-at (suc (suc (suc zero))) prn = cl-sound _ (start-cl-in prn)
 sound-at (suc (suc (suc (suc zero)))) prn = l5-sound _ (start-i5-in prn)
 sound-at (suc (suc (suc (suc (suc zero))))) prn = l5-sound _ (start-q5-in prn)
 sound-at (suc (suc (suc (suc (suc (suc k)))))) prn = plain-sound 1 _ (lit< tt) none-sound none-sound

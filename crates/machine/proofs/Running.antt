@@ -2,10 +2,10 @@
 -- Assumes nothing.
 use Prim.Native.Nat.{ℕ, _+_, _≤_}
 use mathlib.Core.Bool.{Bool, true, false, cond}
-use mathlib.Core.Path.{_≡_, refl}
+use mathlib.Core.Path.{_≡_, refl, ap}
 use native.Mathlib.Omega.{arith}
 use lib.Dec.{eqb}
-use borrow.Author.Tests.{eq-eqb, ne-eqb}
+use borrow.Author.Tests.{eqb-true}
 use Rattle.machine.specs.Generators.{Kind, fresh, restarted, moved, stepIn, stepGenerator, modeInRange}
 use Rattle.machine.specs.Signals.{none}
 use Rattle.machine.specs.Ranged.{RangedKind}
@@ -23,14 +23,15 @@ module _ (k : Kind) (e : Bool) (g : Generator) (runs : modeInRange false (g .mod
       → stepIn Running (k .shift (g .register)) (k .start) (k .last (g .cycles)) (k .highest) Running g ≡ stepGenerator k e g
   steps-running arrives = rw (running (g .mode) runs, arrives)
 
-  -- at the end of a cycle
-  pub steps-ended : g .phase ≡ k .last (g .cycles) → restarted (k .start) (k .highest) g ≡ stepGenerator k e g
-  steps-ended ends = rw (running (g .mode) runs, eq-eqb _ _ ends)
-
-  -- before it
-  pub steps-moved : k .arrival e (g .phase + 1) (g .cycles) ≡ Running → (g .phase ≡ k .last (g .cycles) → ⊥)
-      → moved (k .shift (g .register)) Running g ≡ stepGenerator k e g
-  steps-moved arrives goes-on = rw (running (g .mode) runs, arrives, ne-eqb _ _ goes-on)
+-- the start vector matters only at the end of a cycle
+pub start-due : (shifted start start′ last highest : ℕ) (g : Generator) → (g .phase ≡ last → start ≡ start′)
+    → stepIn Running shifted start last highest Running g ≡ stepIn Running shifted start′ last highest Running g
+start-due shifted start start′ last highest g due = by (eqb (g .phase) last) refl
+  where
+    by : (t : Bool) → eqb (g .phase) last ≡ t
+        → cond t (restarted start highest g) (moved shifted Running g) ≡ cond t (restarted start′ highest g) (moved shifted Running g)
+    by true e = ap (λ (s : ℕ). restarted s highest g) (due (eqb-true (g .phase) last e))
+    by false e = refl
 
 -- a phase is never past the longer cycle
 pub cut-phase : (p c last lastCut : ℕ) → lastCut ≤ last → p ≤ cond (eqb c 1) lastCut last → p ≤ last

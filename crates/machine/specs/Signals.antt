@@ -115,13 +115,13 @@ signalP prn =
       chip = chipP prn;
     }
 
--- ---- 3 and 4: L2 CM and L2 CL. "CM 10,230. CL 767,250." "CM, CL: the bit given", the lowest
+-- ---- 3 and 4: L2 CM and L2 CL, each from its start. "CM 10,230. CL 767,250." "CM, CL: the bit given", the lowest
 
 abbrev pub cm : ℕ → Kind
-cm prn = steady 27 shiftL2 (startCM prn) 10230 0
+cm start = steady 27 shiftL2 start 10230 0
 
 abbrev pub cl : ℕ → Kind
-cl prn = steady 27 shiftL2 (startCL prn) 767250 0
+cl start = steady 27 shiftL2 start 767250 0
 
 abbrev pub chipCM : Channel → ℕ
 chipCM ch = ch .first .register % 2
@@ -129,13 +129,19 @@ chipCM ch = ch .first .register % 2
 abbrev pub chipCL : Channel → ℕ
 chipCL ch = ch .second .register % 2
 
+abbrev pub fromCM : ℕ → Signal
+fromCM start = plain 309355200000 (cm start) none chipCM
+
+abbrev pub fromCL : ℕ → Signal
+fromCL start = plain 309355200000 none (cl start) chipCL
+
 abbrev pub signalCM : ℕ → Signal
-signalCM prn = plain 309355200000 (cm prn) none chipCM
+signalCM prn = fromCM (startCM prn)
 
 abbrev pub signalCL : ℕ → Signal
-signalCL prn = plain 309355200000 none (cl prn) chipCL
+signalCL prn = fromCL (startCL prn)
 
--- ---- 5 and 6: I5 and Q5. "XA 8,190, XB 8,191. .. In cycles 1 the last phase is 2,039 for XA and 2,038 for XB." "L5: XA plus XB."
+-- ---- 5 and 6: I5 and Q5, from XB's start. "XA 8,190, XB 8,191. .. In cycles 1 the last phase is 2,039 for XA and 2,038 for XB." "L5: XA plus XB."
 
 abbrev pub xa : Kind
 xa = cut 13 shiftXA startXA 8190 2039
@@ -146,11 +152,14 @@ xb start = cut 13 shiftXB start 8191 2038
 abbrev pub chipL5 : Channel → ℕ
 chipL5 ch = (stage 13 (ch .first .register) + stage 13 (ch .second .register)) % 2
 
+abbrev pub fromL5 : ℕ → Signal
+fromL5 start = plain 6187104000000 xa (xb start) chipL5
+
 abbrev pub signalI5 : ℕ → Signal
-signalI5 prn = plain 6187104000000 xa (xb (startI5 prn)) chipL5
+signalI5 prn = fromL5 (startI5 prn)
 
 abbrev pub signalQ5 : ℕ → Signal
-signalQ5 prn = plain 6187104000000 xa (xb (startQ5 prn)) chipL5
+signalQ5 prn = fromL5 (startQ5 prn)
 
 -- ---- the list of signals, open at its end: "Signal 1 C/A, 2 P, 3 L2 CM, 4 L2 CL, 5 I5, 6 Q5."
 

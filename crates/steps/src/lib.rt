@@ -2,12 +2,12 @@
 ghost use mathlib.Core.Path.{_≡_};
 ghost use Prim.Native.Nat.{_-_, _<_, _≤_, _^_};
 ghost use Rattle.registers.specs.Register.{stage};
-ghost use Rattle.starts.specs.Starts.{Listed, stagesOf};
+ghost use Rattle.starts.specs.Starts.{Listed, stagesOf, startCM, startCL, startI5, startQ5};
 ghost use Rattle.machine.specs.Generators.{upTo};
-ghost use Rattle.machine.specs.Signals.{signalCA, signalP, signalCM, signalCL, signalI5, signalQ5, chipCA, chipP, chipCM, chipCL, chipL5};
+ghost use Rattle.machine.specs.Signals.{signalCA, signalP, fromCM, fromCL, fromL5, cm, cl, xb, chipP, chipCM, chipCL, chipL5};
 ghost use Rattle.machine.specs.Machine.{nextEpoch, nextLine, stepAs, step, chip};
 ghost use Rattle.machine.specs.Ranged.{RangedAs, Ranged};
-ghost use Rattle.steps.specs.Inner.{plainStep};
+ghost use Rattle.steps.specs.Inner.{plainStep, Due};
 use machine::Channel;
 use machine::Generator;
 use starts::Stages;
@@ -168,44 +168,80 @@ pub fn step_ca(ch: Channel) -> Channel
     plain_step(ch, machine::WEEK_CA, first, second)
 }
 
-pub fn step_cm(ch: Channel) -> Channel
-    requires { ⌜ Listed 37 (ch .prn) ⌝ }
-    requires { ⌜ RangedAs (signalCM (ch .prn)) ch ⌝ }
-    ensures { λ r. ⌜ r ≡ stepAs (signalCM (ch .prn)) ch ⌝ }
+// L2 CM, from its start.
+pub fn step_cm(ch: Channel, start: u32) -> Channel
+    requires { ⌜ RangedAs (fromCM start) ch ⌝ }
+    ensures { λ r. ⌜ r ≡ stepAs (fromCM start) ch ⌝ }
 {
-    let first = generators::step_cm(ch.first, ch.prn);
+    let first = generators::step_cm(ch.first, start);
     let second = ch.second;
     plain_step(ch, machine::WEEK_L2, first, second)
 }
 
-pub fn step_cl(ch: Channel) -> Channel
-    requires { ⌜ Listed 37 (ch .prn) ⌝ }
-    requires { ⌜ RangedAs (signalCL (ch .prn)) ch ⌝ }
-    ensures { λ r. ⌜ r ≡ stepAs (signalCL (ch .prn)) ch ⌝ }
+// L2 CL, from its start.
+pub fn step_cl(ch: Channel, start: u32) -> Channel
+    requires { ⌜ RangedAs (fromCL start) ch ⌝ }
+    ensures { λ r. ⌜ r ≡ stepAs (fromCL start) ch ⌝ }
 {
     let first = ch.first;
-    let second = generators::step_cl(ch.second, ch.prn);
+    let second = generators::step_cl(ch.second, start);
     plain_step(ch, machine::WEEK_L2, first, second)
 }
 
-pub fn step_i5(ch: Channel) -> Channel
-    requires { ⌜ Listed 37 (ch .prn) ⌝ }
-    requires { ⌜ RangedAs (signalI5 (ch .prn)) ch ⌝ }
-    ensures { λ r. ⌜ r ≡ stepAs (signalI5 (ch .prn)) ch ⌝ }
+// I5 and Q5, from XB's start.
+pub fn step_l5(ch: Channel, start: u32) -> Channel
+    requires { ⌜ RangedAs (fromL5 start) ch ⌝ }
+    ensures { λ r. ⌜ r ≡ stepAs (fromL5 start) ch ⌝ }
 {
     let first = generators::step_xa(ch.first);
-    let second = generators::step_xb_i5(ch.second, ch.prn);
+    let second = generators::step_xb(ch.second, start);
     plain_step(ch, machine::WEEK_L5, first, second)
 }
 
-pub fn step_q5(ch: Channel) -> Channel
-    requires { ⌜ Listed 37 (ch .prn) ⌝ }
-    requires { ⌜ RangedAs (signalQ5 (ch .prn)) ch ⌝ }
-    ensures { λ r. ⌜ r ≡ stepAs (signalQ5 (ch .prn)) ch ⌝ }
+// ---- starts that depend on the PRN: a step looks one up only where it ends a cycle, and 0 stands for it elsewhere
+
+fn due_cm(g: Generator, prn: u32) -> u32
+    requires { ⌜ Listed 37 prn ⌝ }
+    ensures { λ r. ⌜ Due (cm 0) g (startCM prn) r ⌝ }
 {
-    let first = generators::step_xa(ch.first);
-    let second = generators::step_xb_q5(ch.second, ch.prn);
-    plain_step(ch, machine::WEEK_L5, first, second)
+    if g.phase == machine::LAST_CM {
+        starts::start_cm(prn)
+    } else {
+        0
+    }
+}
+
+fn due_cl(g: Generator, prn: u32) -> u32
+    requires { ⌜ Listed 37 prn ⌝ }
+    ensures { λ r. ⌜ Due (cl 0) g (startCL prn) r ⌝ }
+{
+    if g.phase == machine::LAST_CL {
+        starts::start_cl(prn)
+    } else {
+        0
+    }
+}
+
+fn due_i5(g: Generator, prn: u32) -> u32
+    requires { ⌜ Listed 37 prn ⌝ }
+    ensures { λ r. ⌜ Due (xb 0) g (startI5 prn) r ⌝ }
+{
+    if g.phase == generators::last_xb(g.cycles) {
+        starts::start_i5(prn)
+    } else {
+        0
+    }
+}
+
+fn due_q5(g: Generator, prn: u32) -> u32
+    requires { ⌜ Listed 37 prn ⌝ }
+    ensures { λ r. ⌜ Due (xb 0) g (startQ5 prn) r ⌝ }
+{
+    if g.phase == generators::last_xb(g.cycles) {
+        starts::start_q5(prn)
+    } else {
+        0
+    }
 }
 
 // The channel one step on.
@@ -217,9 +253,9 @@ pub fn step_of(ch: Channel) -> Channel
     match signal {
         1 => step_ca(ch),
         2 => step_p(ch),
-        3 => step_cm(ch),
-        4 => step_cl(ch),
-        5 => step_i5(ch),
-        _ => step_q5(ch),
+        3 => step_cm(ch, due_cm(ch.first, ch.prn)),
+        4 => step_cl(ch, due_cl(ch.second, ch.prn)),
+        5 => step_l5(ch, due_i5(ch.second, ch.prn)),
+        _ => step_l5(ch, due_q5(ch.second, ch.prn)),
     }
 }

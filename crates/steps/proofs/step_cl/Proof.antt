@@ -19,9 +19,9 @@ returns : tie.Need-returns
 returns c =
     let start = c .before .before .before in
     let ch = start .args .ch in
-    let ok = start .pre .1 in
+    let ok = start .pre in
     c .plain-step .ensures
-    ∙ plain-is 309355200000 none (cl (ch .prn)) chipCL _ _ ch ok (lacking-stays false (ch .first) (ok .first-in)) (λ e. c .before .step-cl .ensures)
+    ∙ plain-is 309355200000 none (cl (start .args .start)) chipCL _ _ ch ok (lacking-stays false (ch .first) (ok .first-in)) (λ e. c .before .step-cl .ensures)
 
 pub step-cl-spec : {M : Type 1} → statement M
 step-cl-spec = tie.close (tie.spec step-cl-requires plain-step-requires returns)

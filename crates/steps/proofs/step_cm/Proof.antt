@@ -18,9 +18,9 @@ returns : tie.Need-returns
 returns c =
     let start = c .before .before .before in
     let ch = start .args .ch in
-    let ok = start .pre .1 in
+    let ok = start .pre in
     c .plain-step .ensures
-    ∙ plain-is 309355200000 (cm (ch .prn)) none chipCM _ _ ch ok (c .before .before .step-cm .ensures) (λ e. lacking-stays e (ch .second) (ok .second-in))
+    ∙ plain-is 309355200000 (cm (start .args .start)) none chipCM _ _ ch ok (c .before .before .step-cm .ensures) (λ e. lacking-stays e (ch .second) (ok .second-in))
 
 pub step-cm-spec : {M : Type 1} → statement M
 step-cm-spec = tie.close (tie.spec step-cm-requires plain-step-requires returns)
