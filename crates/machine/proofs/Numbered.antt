@@ -1,12 +1,17 @@
 -- The signal that a number names, and a channel's step, chip and ranges by that signal.
 -- Assumes nothing.
 use Prim.Native.Nat.{ℕ, _≤_}
-use mathlib.Core.Path.{_≡_, ap, subst}
+use mathlib.Core.Path.{_≡_, refl, ap, subst}
 use native.Mathlib.Omega.{arith}
-use Rattle.machine.specs.Signals.{Signal, signalOf, signalCA, signalP, signalCM, signalCL, signalI5, signalQ5}
+use lib.ListN.{length}
+use Rattle.machine.specs.Signals.{Signal, signals, signalOf, signalCA, signalP, signalCM, signalCL, signalI5, signalQ5}
 use Rattle.machine.specs.Machine.{stepAs, step, chip, openedAs, opened}
 use Rattle.machine.specs.Ranged.{RangedAs, Ranged}
 use Rattle.machine.specs.declared.Channel.{Channel}
+
+-- the numbers that `isSignal` admits are those of the list
+six : (prn : ℕ) → length (signals prn) ≡ 6
+six prn = refl
 
 module _ (n prn : ℕ) where
   pub is-ca : n ≡ 1 → signalOf n prn ≡ signalCA prn

@@ -1,14 +1,18 @@
 // The channel of the stepped machine, by value. `specs/` says what it is: Generators, Signals and Machine, in this order.
+
 // Running, or held with a number of chips still to repeat.
 pub enum Mode {
     Running,
     Held(u32),
 }
 
-// A code generator: its register, its phase (the chip in its cycle, from 0), the cycles finished in its run, and whether it is held.
+// A code generator.
 pub struct Generator {
+    // Stage k is binary digit k - 1.
     pub register: u32,
+    // The chip in its cycle, from 0.
     pub phase: u32,
+    // The cycles finished in its run.
     pub cycles: u32,
     pub mode: Mode,
 }
@@ -16,10 +20,14 @@ pub struct Generator {
 // A channel: a signal of a satellite at a place of the week. C/A has G1 and G2 as its generators, P has X1A, X1B, X2A and X2B, L2 CM has its
 // one as the first and L2 CL as the second, I5 and Q5 have XA and XB. What a signal lacks is 0 and running.
 pub struct Channel {
+    // 1 C/A, 2 P, 3 L2 CM, 4 L2 CL, 5 I5, 6 Q5.
     pub signal: u32,
     pub prn: u32,
+    // Chips of this signal since the start of the week.
     pub place: u64,
+    // P alone: X1 epochs of 1.5 seconds since the start of the week.
     pub epoch: u32,
+    // P alone: the last 37 X2 chips, the latest in the lowest bit.
     pub delay: u64,
     pub first: Generator,
     pub second: Generator,

@@ -36,7 +36,7 @@ pub fn chip_ca(ch: Channel, stages: Stages) -> u8
     (sum % 2) as u8
 }
 
-// P: bit prn - 1 of the delay line is its X2.
+// P: X1, and as its X2 bit prn - 1 of the delay line.
 pub fn chip_p(ch: Channel) -> u8
     requires { ⌜ Listed 37 (ch .prn) ⌝ }
     ensures { λ r. ⌜ r ≡ chipP (ch .prn) ch ⌝ }
@@ -46,19 +46,21 @@ pub fn chip_p(ch: Channel) -> u8
     ((x1 + x2 as u32) % 2) as u8
 }
 
+// L2 CM: the bit given.
 pub fn chip_cm(ch: Channel) -> u8
     ensures { λ r. ⌜ r ≡ chipCM ch ⌝ }
 {
     (ch.first.register % 2) as u8
 }
 
+// L2 CL: the bit given.
 pub fn chip_cl(ch: Channel) -> u8
     ensures { λ r. ⌜ r ≡ chipCL ch ⌝ }
 {
     (ch.second.register % 2) as u8
 }
 
-// I5 and Q5.
+// I5 and Q5: XA plus XB.
 pub fn chip_l5(ch: Channel) -> u8
     ensures { λ r. ⌜ r ≡ chipL5 ch ⌝ }
 {
@@ -116,6 +118,37 @@ fn next_line(x2a: u32, x2b: u32, line: u64) -> u64
     (line * 2 + chip as u64) % machine::LINE_LIMIT
 }
 
+// A channel of a signal with at most two generators, given these after the step. What the signal lacks is handed on as it is.
+fn plain_step(ch: Channel, week: u64, first: Generator, second: Generator) -> Channel
+    requires { ⌜ ch .place < week ⌝ }
+    ensures { λ r. ⌜ r ≡ plainStep week first second ch ⌝ }
+{
+    let third = ch.third;
+    let fourth = ch.fourth;
+    Channel {
+        signal: ch.signal,
+        prn: ch.prn,
+        place: next_place(ch.place, week),
+        epoch: ch.epoch,
+        delay: ch.delay,
+        first,
+        second,
+        third,
+        fourth,
+    }
+}
+
+// C/A.
+pub fn step_ca(ch: Channel) -> Channel
+    requires { ⌜ RangedAs (signalCA (ch .prn)) ch ⌝ }
+    ensures { λ r. ⌜ r ≡ stepAs (signalCA (ch .prn)) ch ⌝ }
+{
+    let first = generators::step_g1(ch.first);
+    let second = generators::step_g2(ch.second);
+    plain_step(ch, machine::WEEK_CA, first, second)
+}
+
+// P. X1A goes first: the holds of X2A and X2B depend on where it comes to.
 pub fn step_p(ch: Channel) -> Channel
     requires { ⌜ RangedAs (signalP (ch .prn)) ch ⌝ }
     ensures { λ r. ⌜ r ≡ stepAs (signalP (ch .prn)) ch ⌝ }
@@ -137,35 +170,6 @@ pub fn step_p(ch: Channel) -> Channel
         third,
         fourth,
     }
-}
-
-// A channel of a signal with at most two generators, given these after the step. What the signal lacks is handed on as it is.
-fn plain_step(ch: Channel, week: u64, first: Generator, second: Generator) -> Channel
-    requires { ⌜ ch .place < week ⌝ }
-    ensures { λ r. ⌜ r ≡ plainStep week first second ch ⌝ }
-{
-    let third = ch.third;
-    let fourth = ch.fourth;
-    Channel {
-        signal: ch.signal,
-        prn: ch.prn,
-        place: next_place(ch.place, week),
-        epoch: ch.epoch,
-        delay: ch.delay,
-        first,
-        second,
-        third,
-        fourth,
-    }
-}
-
-pub fn step_ca(ch: Channel) -> Channel
-    requires { ⌜ RangedAs (signalCA (ch .prn)) ch ⌝ }
-    ensures { λ r. ⌜ r ≡ stepAs (signalCA (ch .prn)) ch ⌝ }
-{
-    let first = generators::step_g1(ch.first);
-    let second = generators::step_g2(ch.second);
-    plain_step(ch, machine::WEEK_CA, first, second)
 }
 
 // L2 CM, from its start.
