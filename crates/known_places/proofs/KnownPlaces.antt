@@ -15,32 +15,32 @@ printed n [] = n
 printed n (b ∷ bs) = printed (n * 2 + b) bs
 
 -- the first n chips of a signal's PRN
-abbrev first : ℕ → ℕ → ℕ → ℕ
-first n signal prn = printed 0 (chips n (opened signal prn))
+abbrev firstChips : ℕ → ℕ → ℕ → ℕ
+firstChips n signal prn = printed 0 (chips n (opened signal prn))
 
 -- ◆ "First ten C/A chips, octal: PRN 1 1440; PRN 34 and 37 both 1713."
-pub ca-1 : first 10 1 1 ≡ 0o1440
+pub ca-1 : firstChips 10 1 1 ≡ 0o1440
 unfolding chips chip step opened stage sumOf shift stagesCA stagesOf
 ca-1 = refl
 
-pub ca-34 : first 10 1 34 ≡ 0o1713
+pub ca-34 : firstChips 10 1 34 ≡ 0o1713
 unfolding chips chip step opened stage sumOf shift stagesCA stagesOf
 ca-34 = refl
 
-pub ca-37 : first 10 1 37 ≡ 0o1713
+pub ca-37 : firstChips 10 1 37 ≡ 0o1713
 unfolding chips chip step opened stage sumOf shift stagesCA stagesOf
 ca-37 = refl
 
 -- ◆ "First twelve of P: PRN 1 4444, PRN 2 4000, PRN 10 4343."
-pub p-1 : first 12 2 1 ≡ 0o4444
+pub p-1 : firstChips 12 2 1 ≡ 0o4444
 unfolding chips chip step opened stage sumOf shift
 p-1 = refl
 
-pub p-2 : first 12 2 2 ≡ 0o4000
+pub p-2 : firstChips 12 2 2 ≡ 0o4000
 unfolding chips chip step opened stage sumOf shift
 p-2 = refl
 
-pub p-10 : first 12 2 10 ≡ 0o4343
+pub p-10 : firstChips 12 2 10 ≡ 0o4343
 unfolding chips chip step opened stage sumOf shift
 p-10 = refl
 
@@ -50,7 +50,7 @@ unfolding advance times step opened stage sumOf shift
 x1a-at-4091 prn = refl
 
 -- ◆ "I5 PRN 1, first 13 chips 1101100010101."
-pub i5-1 : first 13 5 1 ≡ 0b1101100010101
+pub i5-1 : firstChips 13 5 1 ≡ 0b1101100010101
 unfolding chips chip step opened stage sumOf shift startI5 advancesI5 advancedXB times
 i5-1 = refl
 

@@ -51,6 +51,15 @@ fn lacking(g: Generator) -> bool
 
 // ---- refusal 4, of a channel
 
+// One past the highest number that a register holds, 2 to its width.
+const LIMIT_G: u32 = 1_024;
+
+const LIMIT_X: u32 = 4_096;
+
+const LIMIT_L2: u32 = 134_217_728;
+
+const LIMIT_L5: u32 = 8_192;
+
 // A channel of a signal with at most two generators, given their tests.
 fn plain_in_range(ch: Channel, week: u64, first: bool, second: bool) -> bool
     ensures { λ r. ⌜ r ≡ plainInRange week first second ch ⌝ }
@@ -67,8 +76,8 @@ fn plain_in_range(ch: Channel, week: u64, first: bool, second: bool) -> bool
 fn ca_in_range(ch: Channel) -> bool
     ensures { λ r. ⌜ r ≡ inRangeAs (signalCA (ch .prn)) ch ⌝ }
 {
-    let first = generator_in_range(ch.first, 1_024, machine::LAST_G, 0, false);
-    let second = generator_in_range(ch.second, 1_024, machine::LAST_G, 0, false);
+    let first = generator_in_range(ch.first, LIMIT_G, machine::LAST_G, 0, false);
+    let second = generator_in_range(ch.second, LIMIT_G, machine::LAST_G, 0, false);
     plain_in_range(ch, machine::WEEK_CA, first, second)
 }
 
@@ -77,28 +86,28 @@ fn p_in_range(ch: Channel) -> bool
 {
     let x1a = generator_in_range(
         ch.first,
-        4_096,
+        LIMIT_X,
         machine::LAST_X1A,
         machine::HIGHEST_X1A,
         false,
     );
     let x1b = generator_in_range(
         ch.second,
-        4_096,
+        LIMIT_X,
         machine::LAST_X1B,
         machine::HIGHEST_X1B,
         true,
     );
     let x2a = generator_in_range(
         ch.third,
-        4_096,
+        LIMIT_X,
         machine::LAST_X2A,
         machine::HIGHEST_X2A,
         true,
     );
     let x2b = generator_in_range(
         ch.fourth,
-        4_096,
+        LIMIT_X,
         machine::LAST_X2B,
         machine::HIGHEST_X2B,
         true,
@@ -115,14 +124,14 @@ fn p_in_range(ch: Channel) -> bool
 fn cm_in_range(ch: Channel) -> bool
     ensures { λ r. ⌜ r ≡ inRangeAs (signalCM (ch .prn)) ch ⌝ }
 {
-    let first = generator_in_range(ch.first, 134_217_728, machine::LAST_CM, 0, false);
+    let first = generator_in_range(ch.first, LIMIT_L2, machine::LAST_CM, 0, false);
     plain_in_range(ch, machine::WEEK_L2, first, lacking(ch.second))
 }
 
 fn cl_in_range(ch: Channel) -> bool
     ensures { λ r. ⌜ r ≡ inRangeAs (signalCL (ch .prn)) ch ⌝ }
 {
-    let second = generator_in_range(ch.second, 134_217_728, machine::LAST_CL, 0, false);
+    let second = generator_in_range(ch.second, LIMIT_L2, machine::LAST_CL, 0, false);
     plain_in_range(ch, machine::WEEK_L2, lacking(ch.first), second)
 }
 
@@ -132,8 +141,8 @@ fn l5_in_range(ch: Channel) -> bool
 {
     let last_xa = generators::last_xa(ch.first.cycles);
     let last_xb = generators::last_xb(ch.second.cycles);
-    let first = generator_in_range(ch.first, 8_192, last_xa, machine::HIGHEST_XA, false);
-    let second = generator_in_range(ch.second, 8_192, last_xb, machine::HIGHEST_XB, false);
+    let first = generator_in_range(ch.first, LIMIT_L5, last_xa, machine::HIGHEST_XA, false);
+    let second = generator_in_range(ch.second, LIMIT_L5, last_xb, machine::HIGHEST_XB, false);
     plain_in_range(ch, machine::WEEK_L5, first, second)
 }
 
