@@ -52,17 +52,7 @@ none = steady 0 (λ r. 0) 0 1 0
 -- a signal of at most two generators, with no epoch and no delay line
 abbrev pub plain : ℕ → Kind → Kind → (Channel → ℕ) → Signal
 plain week first second chip =
-    record {
-      week = week;
-      lastEpoch = 0;
-      lineBits = 0;
-      lineStart = 0;
-      first = first;
-      second = second;
-      third = none;
-      fourth = none;
-      chip = chip;
-    }
+    record { week = week; lastEpoch = 0; lineBits = 0; lineStart = 0; first = first; second = second; third = none; fourth = none; chip = chip }
 
 -- ---- 1: C/A. "Cycle lengths: G1, G2 1,023."
 
@@ -103,17 +93,7 @@ chipP prn ch = (stage 12 (ch .first .register) + stage 12 (ch .second .register)
 -- "P's delay line is all ones" at place 0
 abbrev pub signalP : ℕ → Signal
 signalP prn =
-    record {
-      week = 6187104000000;
-      lastEpoch = 403199;
-      lineBits = 37;
-      lineStart = 2 ^ 37 - 1;
-      first = x1a;
-      second = x1b;
-      third = x2a;
-      fourth = x2b;
-      chip = chipP prn;
-    }
+    record { week = 6187104000000; lastEpoch = 403199; lineBits = 37; lineStart = 2 ^ 37 - 1; first = x1a; second = x1b; third = x2a; fourth = x2b; chip = chipP prn }
 
 -- ---- 3 and 4: L2 CM and L2 CL, each from its start. "CM 10,230. CL 767,250." "CM, CL: the bit given", the lowest
 
