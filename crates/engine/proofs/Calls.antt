@@ -6,13 +6,12 @@ use Prim.Native.Nat.{ℕ, suc}
 use mathlib.Core.Bool.{true}
 use mathlib.Core.Path.{_≡_, refl, sym, ap, _∙_}
 use mathlib.Core.List.{[], _∷_}
-use Rattle.registers.specs.Times.{times}
 use Rattle.registers.proofs.Repeat.{times-last}
 use Rattle.machine.specs.Machine.{opened, step, advance, chip, inRange, isSignal, isPrn}
 use Rattle.machine.specs.declared.Channel.{Channel}
 use Rattle.machine.proofs.Ranges.{signal-in, prn-in}
 use Rattle.machine.proofs.RangeLaw.{opened-in, advance-in}
-use Rattle.engine.specs.Replies.{refusal, openReply, Reply, stepReply}
+use Rattle.engine.specs.Replies.{refusal, openReply, stepReply}
 
 pub signal-257 : (prn : ℕ) → openReply 257 prn ≡ refusal 1
 unfolding openReply

@@ -2,7 +2,7 @@
 // in, so that no table is read here.
 ghost use mathlib.Core.Path.{_≡_};
 ghost use mathlib.Core.Bool.{false};
-ghost use Prim.Native.Nat.{_<_, _^_};
+ghost use Prim.Native.Nat.{_+_, _<_, _≤_, _^_};
 ghost use Rattle.machine.specs.declared.Mode.the-variants.{Running};
 ghost use Rattle.machine.specs.Generators.{fresh, restarted, moved, heldWith, stepIn, stepGenerator, heldAt, heldAtEnd};
 ghost use Rattle.machine.specs.Signals.{g1, g2, x1a, x1b, x2a, x2b, cm, cl, xa, xb};
@@ -26,7 +26,7 @@ pub fn fresh_generator(start: u32, cycles: u32) -> Generator
 
 // At the end of a cycle: the next one begins, and the cycles rise or return to 0.
 fn restart(g: Generator, start: u32, highest: u32) -> Generator
-    requires { ⌜ g .cycles < 2 ^ 31 ⌝ }
+    requires { ⌜ g .cycles ≤ highest ⌝ }
     ensures { λ r. ⌜ r ≡ restarted start highest g ⌝ }
 {
     if g.cycles == highest {
@@ -38,7 +38,7 @@ fn restart(g: Generator, start: u32, highest: u32) -> Generator
 
 // One chip on in its cycle.
 fn move_on(g: Generator, shifted: u32, arrival: Mode) -> Generator
-    requires { ⌜ g .phase < 2 ^ 31 ⌝ }
+    requires { ⌜ g .phase + 1 < 2 ^ 32 ⌝ }
     ensures { λ r. ⌜ r ≡ moved shifted arrival g ⌝ }
 {
     Generator {
@@ -63,8 +63,8 @@ fn hold(g: Generator, chips: u32) -> Generator
 
 // The step of a generator that is never held, given its register after a shift.
 fn step_running(g: Generator, shifted: u32, start: u32, last: u32, highest: u32) -> Generator
-    requires { ⌜ g .phase < 2 ^ 31 ⌝ }
-    requires { ⌜ g .cycles < 2 ^ 31 ⌝ }
+    requires { ⌜ g .phase ≤ last ⌝ }
+    requires { ⌜ g .cycles ≤ highest ⌝ }
     ensures { λ r. ⌜ r ≡ stepIn Running shifted start last highest Running g ⌝ }
 {
     if g.phase == last {
@@ -83,8 +83,8 @@ fn step_held(
     highest: u32,
     arrival: Mode,
 ) -> Generator
-    requires { ⌜ g .phase < 2 ^ 31 ⌝ }
-    requires { ⌜ g .cycles < 2 ^ 31 ⌝ }
+    requires { ⌜ g .phase ≤ last ⌝ }
+    requires { ⌜ g .cycles ≤ highest ⌝ }
     ensures { λ r. ⌜ r ≡ stepIn (g .mode) shifted start last highest arrival g ⌝ }
 {
     let mode = g.mode;

@@ -120,9 +120,9 @@ p-sound prn =
       week-sound = lit< tt;
       line-sound = lit< tt;
       first-sound = sound x1a shifts.x1a (lit< tt) (λ e p c. refl);
-      second-sound = sound x1b shifts.x1b (lit< tt) (λ e p c. held-at-in 4092 3748 343 p c (lit≤ tt));
-      third-sound = sound x2a shifts.x2a (lit< tt) (λ e p c. held-at-end-in 4091 3749 37 1069 e p c (lit≤ tt) (lit≤ tt));
-      fourth-sound = sound x2b shifts.x2b (lit< tt) (λ e p c. held-at-end-in 4092 3748 380 965 e p c (lit≤ tt) (lit≤ tt));
+      second-sound = sound x1b shifts.x1b (lit< tt) (λ e p c. held-at-in _ _ _ p c (lit≤ tt));
+      third-sound = sound x2a shifts.x2a (lit< tt) (λ e p c. held-at-end-in _ _ _ _ e p c (lit≤ tt) (lit≤ tt));
+      fourth-sound = sound x2b shifts.x2b (lit< tt) (λ e p c. held-at-end-in _ _ _ _ e p c (lit≤ tt) (lit≤ tt));
     }
 
 pub cm-sound : (start : ℕ) → start < 2 ^ 27 → SoundSignal (fromCM start)

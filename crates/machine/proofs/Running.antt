@@ -1,6 +1,9 @@
--- Generators that are never held: their step by its two cases, and a generator that the signal lacks.
+-- Generators that are never held, and generators that the signal lacks.
+--     steps-running   the step of one that is never held needs no look at its mode
+--     start-due       its start vector matters only at the end of a cycle
+--     lacking-stays   a step leaves one that the signal lacks as it was
 -- Assumes nothing.
-use Prim.Native.Nat.{ℕ, _+_, _≤_}
+use Prim.Native.Nat.{ℕ, _+_}
 use mathlib.Core.Bool.{Bool, true, false, cond}
 use mathlib.Core.Path.{_≡_, refl, ap}
 use native.Mathlib.Omega.{arith}
@@ -12,18 +15,15 @@ use Rattle.machine.specs.Ranged.{RangedKind}
 use Rattle.machine.specs.declared.Mode.{Mode}
 use Rattle.machine.specs.declared.Mode.the-variants.{Running, Held}
 use Rattle.machine.specs.declared.Generator.{Generator}
-use Rattle.machine.proofs.Tests.{chosen}
 
-pub running : (m : Mode) → modeInRange false m ≡ true → m ≡ Running
+running : (m : Mode) → modeInRange false m ≡ true → m ≡ Running
 running Running h = refl
 running (Held n) h = cc
 
-module _ (k : Kind) (e : Bool) (g : Generator) (runs : modeInRange false (g .mode) ≡ true) where
-  pub steps-running : k .arrival e (g .phase + 1) (g .cycles) ≡ Running
-      → stepIn Running (k .shift (g .register)) (k .start) (k .last (g .cycles)) (k .highest) Running g ≡ stepGenerator k e g
-  steps-running arrives = rw (running (g .mode) runs, arrives)
+pub steps-running : (k : Kind) (e : Bool) (g : Generator) → modeInRange false (g .mode) ≡ true → k .arrival e (g .phase + 1) (g .cycles) ≡ Running
+    → stepIn Running (k .shift (g .register)) (k .start) (k .last (g .cycles)) (k .highest) Running g ≡ stepGenerator k e g
+steps-running k e g runs arrives = rw (running (g .mode) runs, arrives)
 
--- the start vector matters only at the end of a cycle
 pub start-due : (shifted start start′ last highest : ℕ) (g : Generator) → (g .phase ≡ last → start ≡ start′)
     → stepIn Running shifted start last highest Running g ≡ stepIn Running shifted start′ last highest Running g
 start-due shifted start start′ last highest g due = by (eqb (g .phase) last) refl
@@ -33,10 +33,6 @@ start-due shifted start start′ last highest g due = by (eqb (g .phase) last) r
     by true e = ap (λ (s : ℕ). restarted s highest g) (due (eqb-true (g .phase) last e))
     by false e = refl
 
--- a phase is never past the longer cycle
-pub cut-phase : (p c last lastCut : ℕ) → lastCut ≤ last → p ≤ cond (eqb c 1) lastCut last → p ≤ last
-cut-phase p c last lastCut h = chosen (λ (n : ℕ). p ≤ n → p ≤ last) (eqb c 1) (λ t q. omega arith) (λ t q. q)
-
 -- ---- a generator that the signal lacks
 
 fields-are : (a b c : ℕ) (m : Mode) → a ≡ 0 → b ≡ 0 → c ≡ 0 → m ≡ Running
@@ -44,11 +40,10 @@ fields-are : (a b c : ℕ) (m : Mode) → a ≡ 0 → b ≡ 0 → c ≡ 0 → m 
 fields-are a b c m p q r s = rw (p, q, r, s)
 
 -- it is 0 and running
-pub lacking : (g : Generator) → RangedKind none g → g ≡ fresh 0 0
+lacking : (g : Generator) → RangedKind none g → g ≡ fresh 0 0
 lacking g r =
     fields-are (g .register) (g .phase) (g .cycles) (g .mode)
     (omega (arith, r .register-in)) (omega (arith, r .phase-in)) (omega (arith, r .cycles-in)) (running (g .mode) (r .mode-in))
 
--- and a step leaves it as it was
 pub lacking-stays : (e : Bool) (g : Generator) → RangedKind none g → g ≡ stepGenerator none e g
 lacking-stays e g r = rw (lacking g r)

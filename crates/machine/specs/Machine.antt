@@ -90,11 +90,11 @@ openedAs s signal prn = atZero signal prn (s .lineStart) (s .first .start) (s .s
 unfoldable pub opened : ℕ → ℕ → Channel
 opened signal prn = openedAs (signalOf signal prn) signal prn
 
--- "signal not 1 to 6"
+-- the opposite of refusal 1, "signal not 1 to 6"
 abbrev pub isSignal : ℕ → Bool
 isSignal n = leb 1 n && leb n 6
 
--- "PRN not 1 to 37"
+-- the opposite of refusal 2, "PRN not 1 to 37"
 abbrev pub isPrn : ℕ → Bool
 isPrn n = leb 1 n && leb n 37
 

@@ -2,10 +2,8 @@
 --     cm, cl, l5   of a channel of L2 CM, of L2 CL, and of I5 or Q5: its range and its step
 -- Assumes nothing.
 use Prim.Native.Nat.{ℕ, _-_}
-use mathlib.Core.Bool.{Bool, false, cond}
+use mathlib.Core.Bool.{Bool, false}
 use mathlib.Core.Path.{_≡_, refl, sym, _∙_}
-use lib.Dec.{eqb}
-use Rattle.registers.specs.Register.{shiftL2, shiftXB}
 use Rattle.machine.specs.Generators.{Kind, neverHeld, upTo, stepGenerator}
 use Rattle.machine.specs.Signals.{none, plain, cm, cl, xa, xb, chipCM, chipCL, chipL5, fromCM, fromCL, fromL5}
 use Rattle.machine.specs.Machine.{nextEpoch, nextLine, atWeekEnd, stepAs}
@@ -15,18 +13,19 @@ use Rattle.machine.specs.declared.Channel.{Channel}
 use Rattle.machine.proofs.Running.{steps-running, start-due}
 use Rattle.steps.specs.Inner.{Due}
 
--- ---- a generator that is never held, from a start
+-- ---- a generator that is never held
 
-module _ (width : ℕ) (shift : ℕ → ℕ) (last : ℕ → ℕ) (highest : ℕ) where
+module _ (k : Kind) where
+  -- with these constants, from a start
   abbrev from : ℕ → Kind
   from start =
-      record { width = width; shift = shift; start = start; last = last; highest = highest; holds = false; arrival = neverHeld }
+      record { width = k .width; shift = k .shift; start = start; last = k .last; highest = k .highest; holds = false; arrival = neverHeld }
 
-  from-due : (g : Generator) (start given : ℕ) → RangedKind (from start) g → Due (from 0) g start given
+  from-due : (g : Generator) (start given : ℕ) → RangedKind (from start) g → Due k g start given
       → (e : Bool) → stepGenerator (from given) e g ≡ stepGenerator (from start) e g
   from-due g start given r d e =
       sym (steps-running (from given) e g (r .mode-in) refl)
-      ∙ start-due (shift (g .register)) given start (last (g .cycles)) highest g (d .due)
+      ∙ start-due (k .shift (g .register)) given start (k .last (g .cycles)) (k .highest) g (d .due)
       ∙ steps-running (from start) e g (r .mode-in) refl
 
 -- ---- a channel of at most two generators
@@ -68,25 +67,25 @@ module _ (week : ℕ) (a a′ b b′ : Kind) (f : Channel → ℕ) (ch : Channel
 
 module _ (ch : Channel) (start given : ℕ) where
   pub cm-ranged : RangedAs (fromCM start) ch → RangedAs (fromCM given) ch
-  cm-ranged r = as-ranged 309355200000 (cm start) (cm given) none none chipCM ch r (r .first-in) (r .second-in)
+  cm-ranged r = as-ranged (fromCM start .week) (cm start) (cm given) none none chipCM ch r (r .first-in) (r .second-in)
 
   pub cl-ranged : RangedAs (fromCL start) ch → RangedAs (fromCL given) ch
-  cl-ranged r = as-ranged 309355200000 none none (cl start) (cl given) chipCL ch r (r .first-in) (r .second-in)
+  cl-ranged r = as-ranged (fromCL start .week) none none (cl start) (cl given) chipCL ch r (r .first-in) (r .second-in)
 
   pub l5-ranged : RangedAs (fromL5 start) ch → RangedAs (fromL5 given) ch
-  l5-ranged r = as-ranged 6187104000000 xa xa (xb start) (xb given) chipL5 ch r (r .first-in) (r .second-in)
+  l5-ranged r = as-ranged (fromL5 start .week) xa xa (xb start) (xb given) chipL5 ch r (r .first-in) (r .second-in)
 
   pub cm-stepped : RangedAs (fromCM start) ch → Due (cm 0) (ch .first) start given → stepAs (fromCM given) ch ≡ stepAs (fromCM start) ch
   cm-stepped r d =
-      as-stepped 309355200000 (cm given) (cm start) none none chipCM ch
-      (from-due 27 shiftL2 (λ c. 10230 - 1) 0 (ch .first) start given (r .first-in) d false) (λ e. refl)
+      as-stepped (fromCM start .week) (cm given) (cm start) none none chipCM ch
+      (from-due (cm 0) (ch .first) start given (r .first-in) d false) (λ e. refl)
 
   pub cl-stepped : RangedAs (fromCL start) ch → Due (cl 0) (ch .second) start given → stepAs (fromCL given) ch ≡ stepAs (fromCL start) ch
   cl-stepped r d =
-      as-stepped 309355200000 none none (cl given) (cl start) chipCL ch refl
-      (from-due 27 shiftL2 (λ c. 767250 - 1) 0 (ch .second) start given (r .second-in) d)
+      as-stepped (fromCL start .week) none none (cl given) (cl start) chipCL ch refl
+      (from-due (cl 0) (ch .second) start given (r .second-in) d)
 
   pub l5-stepped : RangedAs (fromL5 start) ch → Due (xb 0) (ch .second) start given → stepAs (fromL5 given) ch ≡ stepAs (fromL5 start) ch
   l5-stepped r d =
-      as-stepped 6187104000000 xa xa (xb given) (xb start) chipL5 ch refl
-      (from-due 13 shiftXB (λ c. cond (eqb c 1) 2038 (8191 - 1)) 1 (ch .second) start given (r .second-in) d)
+      as-stepped (fromL5 start .week) xa xa (xb given) (xb start) chipL5 ch refl
+      (from-due (xb 0) (ch .second) start given (r .second-in) d)

@@ -95,7 +95,7 @@ fn next_place(place: u64, week: u64) -> u64
 
 // The epoch after a step, given X1A before and after it.
 fn next_epoch(before: Generator, after: Generator, epoch: u32) -> u32
-    requires { ⌜ epoch < 2 ^ 31 ⌝ }
+    requires { ⌜ epoch ≤ 403199 ⌝ }
     ensures { λ r. ⌜ r ≡ nextEpoch 403199 before after epoch ⌝ }
 {
     if (0 < before.cycles) & (after.cycles == 0) {

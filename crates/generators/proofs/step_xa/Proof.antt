@@ -1,13 +1,10 @@
 -- `generators::step_xa` meets its contract.
 -- Assumes nothing.
-use Prim.Native.Nat.{_≤_}
 use mathlib.Core.Path.{_∙_, refl}
 use mathlib.Core.Bool.{false}
-use native.Mathlib.Omega.{arith}
-use lib.Dec.{lit≤}
 use borrow.Author.Needs.{needs}
 use Rattle.machine.specs.Signals.{xa}
-use Rattle.machine.proofs.Running.{steps-running, cut-phase}
+use Rattle.machine.proofs.Running.{steps-running}
 use Rattle.generators.proofs.step_xa.Statement.{statement}
 use Rattle.generators.proofs.step_xa.Tie as tie
 
@@ -22,10 +19,8 @@ last-xa-requires c κs = search needs
 
 step-running-requires : tie.Need-step-running-requires
 step-running-requires c κs =
-    let start = c .before .before .before in
-    let g = start .args .g in
-    let phase : g .phase ≤ 8189 = cut-phase (g .phase) (g .cycles) 8189 2039 (lit≤ tt) (start .pre .phase-in) in
-    (omega arith, omega arith)
+    let range = c .before .before .before .pre in
+    (rw (c .last-xa .ensures) (range .phase-in), range .cycles-in)
 
 returns : tie.Need-returns
 returns c =

@@ -1,13 +1,10 @@
 -- `generators::step_xb` meets its contract.
 -- Assumes nothing.
-use Prim.Native.Nat.{_≤_}
 use mathlib.Core.Path.{_∙_, refl}
 use mathlib.Core.Bool.{false}
-use native.Mathlib.Omega.{arith}
-use lib.Dec.{lit≤}
 use borrow.Author.Needs.{needs}
 use Rattle.machine.specs.Signals.{xb}
-use Rattle.machine.proofs.Running.{steps-running, cut-phase}
+use Rattle.machine.proofs.Running.{steps-running}
 use Rattle.generators.proofs.step_xb.Statement.{statement}
 use Rattle.generators.proofs.step_xb.Tie as tie
 
@@ -19,10 +16,8 @@ last-xb-requires c κs = search needs
 
 step-running-requires : tie.Need-step-running-requires
 step-running-requires c κs =
-    let start = c .before .before in
-    let g = start .args .g in
-    let phase : g .phase ≤ 8190 = cut-phase (g .phase) (g .cycles) 8190 2038 (lit≤ tt) (start .pre .phase-in) in
-    (omega arith, omega arith)
+    let range = c .before .before .pre in
+    (rw (c .last-xb .ensures) (range .phase-in), range .cycles-in)
 
 returns : tie.Need-returns
 returns c =

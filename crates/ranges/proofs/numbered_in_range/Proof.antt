@@ -1,18 +1,15 @@
 -- `ranges::numbered_in_range` meets its contract.
 -- Assumes nothing.
-use Prim.Native.Nat.{_≤_}
 use mathlib.Core.Bool.{Bool, true, false, _&&_}
 use mathlib.Core.Path.{_≡_, refl, sym, ap, ap₂, _∙_}
 use native.Mathlib.Omega.{arith}
-use lib.Dec.{leb}
-use borrow.Author.Tests.{leb-true}
 use borrow.Author.Needs.{needs}
 use Rattle.ranges.specs.Inner.{numberedInRange}
 use Rattle.machine.proofs.Numbered.{is-ca, is-p, is-cm, is-cl, is-i5, is-q5}
 use Rattle.machine.specs.declared.Channel.{Channel}
 use Rattle.machine.specs.Machine.{isSignal, inRangeAs}
 use Rattle.machine.specs.Signals.{Signal, signalOf}
-use Rattle.machine.proofs.Tests.{both-left, both-right}
+use Rattle.machine.proofs.Ranges.{signal-in}
 use Rattle.ranges.proofs.numbered_in_range.Statement.{statement}
 use Rattle.ranges.proofs.numbered_in_range.Tie as tie
 
@@ -28,9 +25,8 @@ unlisted : (ch : Channel) (t : Bool) → isSignal (ch .signal) ≡ t
     → false ≡ numberedInRange ch
 unlisted ch false e n1 n2 n3 n4 n5 n6 = sym (ap (λ (t : Bool). t && inRangeAs (signalOf (ch .signal) (ch .prn)) ch) e)
 unlisted ch true e n1 n2 n3 n4 n5 n6 =
-    let first : 1 ≤ ch .signal = leb-true _ _ (both-left (leb 1 (ch .signal)) (leb (ch .signal) 6) e) in
-    let last : ch .signal ≤ 6 = leb-true _ _ (both-right (leb 1 (ch .signal)) (leb (ch .signal) 6) e) in
-    absurd (omega arith)
+    let listed = signal-in (ch .signal) e in
+    absurd (omega (arith, listed .0, listed .1))
 
 ca-in-range-requires : tie.Need-ca-in-range-requires
 ca-in-range-requires c κs = search needs

@@ -21,7 +21,7 @@ returns c =
     let start = c .before .before .before in
     let ch = start .args .ch in
     c .plain-step .ensures
-    ∙ plain-is 618710400000 g1 g2 (signalCA (ch .prn) .chip) _ _ ch (start .pre) (c .before .before .step-g1 .ensures) (λ e. c .before .step-g2 .ensures)
+    ∙ plain-is (signalCA (ch .prn) .week) g1 g2 (signalCA (ch .prn) .chip) _ _ ch (start .pre) (c .before .before .step-g1 .ensures) (λ e. c .before .step-g2 .ensures)
 
 pub step-ca-spec : {M : Type 1} → statement M
 step-ca-spec = tie.close (tie.spec step-g1-requires step-g2-requires plain-step-requires returns)

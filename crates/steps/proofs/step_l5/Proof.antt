@@ -3,7 +3,7 @@
 use mathlib.Core.Path.{_∙_}
 use borrow.Author.Needs.{needs}
 use Rattle.steps.proofs.PlainSteps.{plain-is}
-use Rattle.machine.specs.Signals.{xa, xb, chipL5}
+use Rattle.machine.specs.Signals.{xa, xb, chipL5, fromL5}
 use Rattle.steps.proofs.step_l5.Statement.{statement}
 use Rattle.steps.proofs.step_l5.Tie as tie
 
@@ -21,7 +21,7 @@ returns c =
     let start = c .before .before .before in
     let ch = start .args .ch in
     c .plain-step .ensures
-    ∙ plain-is 6187104000000 xa (xb (start .args .start)) chipL5 _ _ ch (start .pre) (c .before .before .step-xa .ensures) (λ e. c .before .step-xb .ensures)
+    ∙ plain-is (fromL5 (start .args .start) .week) xa (xb (start .args .start)) chipL5 _ _ ch (start .pre) (c .before .before .step-xa .ensures) (λ e. c .before .step-xb .ensures)
 
 pub step-l5-spec : {M : Type 1} → statement M
 step-l5-spec = tie.close (tie.spec step-xa-requires step-xb-requires plain-step-requires returns)
