@@ -1,10 +1,10 @@
 -- The signal that a number names, and a channel's step, chip and ranges by that signal.
 -- Assumes nothing.
-use Prim.Native.Nat.{ℕ, _≤_}
+use Prim.Native.Nat.{ℕ, zero, suc, _-_, _≤_}
 use mathlib.Core.Path.{_≡_, refl, ap, subst}
 use native.Mathlib.Omega.{arith}
-use lib.ListN.{length}
-use Rattle.machine.specs.Signals.{Signal, signals, signalOf, signalCA, signalP, signalCM, signalCL, signalI5, signalQ5}
+use lib.ListN.{length, getD}
+use Rattle.machine.specs.Signals.{Signal, signals, noSignal, signalOf, weekOf, signalCA, signalP, signalCM, signalCL, signalI5, signalQ5}
 use Rattle.machine.specs.Machine.{stepAs, step, chip, openedAs, opened}
 use Rattle.machine.specs.Ranged.{RangedAs, Ranged}
 use Rattle.machine.specs.declared.Channel.{Channel}
@@ -31,6 +31,19 @@ module _ (n prn : ℕ) where
 
   pub is-q5 : n ≡ 6 → signalOf n prn ≡ signalQ5 prn
   is-q5 e = rw e
+
+-- W is the same for every PRN
+week-at : (k prn : ℕ) → getD (signals prn) k noSignal .week ≡ getD (signals 1) k noSignal .week
+week-at zero prn = refl
+week-at (suc zero) prn = refl
+week-at (suc (suc zero)) prn = refl
+week-at (suc (suc (suc zero))) prn = refl
+week-at (suc (suc (suc (suc zero)))) prn = refl
+week-at (suc (suc (suc (suc (suc zero))))) prn = refl
+week-at (suc (suc (suc (suc (suc (suc k)))))) prn = refl
+
+pub week-is : (n prn : ℕ) → signalOf n prn .week ≡ weekOf n
+week-is n prn = week-at (n - 1) prn
 
 -- the number that is none of the first five
 pub is-sixth : (n : ℕ) → 1 ≤ n → n ≤ 6 → (n ≡ 1 → ⊥) → (n ≡ 2 → ⊥) → (n ≡ 3 → ⊥) → (n ≡ 4 → ⊥) → (n ≡ 5 → ⊥) → n ≡ 6

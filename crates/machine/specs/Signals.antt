@@ -28,6 +28,20 @@ pub record Signal : Type 0 where
   -- "The chip is that of the present fields, sums modulo 2."
   pub chip : Channel → ℕ
 
+-- ---- "The week W has 618,710,400,000 chips for signal 1; 309,355,200,000 for 3 and 4; 6,187,104,000,000 for 2, 5 and 6."
+
+abbrev pub weekCA : ℕ
+weekCA = 618710400000
+
+abbrev pub weekP : ℕ
+weekP = 6187104000000
+
+abbrev pub weekL2 : ℕ
+weekL2 = 309355200000
+
+abbrev pub weekL5 : ℕ
+weekL5 = 6187104000000
+
 -- ---- forms of a generator
 
 -- held at times, with cycles of so many chips
@@ -67,7 +81,7 @@ abbrev pub chipCA : ℕ → ℕ → Channel → ℕ
 chipCA j k ch = (stage 10 (ch .first .register) + stage j (ch .second .register) + stage k (ch .second .register)) % 2
 
 abbrev pub signalCA : ℕ → Signal
-signalCA prn = plain 618710400000 g1 g2 (chipCA (stagesOf prn .first) (stagesOf prn .second))
+signalCA prn = plain weekCA g1 g2 (chipCA (stagesOf prn .first) (stagesOf prn .second))
 
 -- ---- 2: P. "X1A, X2A 4,092. X1B, X2B 4,093"; highest cycles "3,749 for X1A, X2A; 3,748 for X1B, X2B"
 
@@ -93,7 +107,7 @@ chipP prn ch = (stage 12 (ch .first .register) + stage 12 (ch .second .register)
 -- "P's delay line is all ones" at place 0
 abbrev pub signalP : ℕ → Signal
 signalP prn =
-    record { week = 6187104000000; lastEpoch = 403199; lineBits = 37; lineStart = 2 ^ 37 - 1; first = x1a; second = x1b; third = x2a; fourth = x2b; chip = chipP prn }
+    record { week = weekP; lastEpoch = 403199; lineBits = 37; lineStart = 2 ^ 37 - 1; first = x1a; second = x1b; third = x2a; fourth = x2b; chip = chipP prn }
 
 -- ---- 3 and 4: L2 CM and L2 CL, each from its start. "CM 10,230. CL 767,250." "CM, CL: the bit given", the lowest
 
@@ -110,10 +124,10 @@ abbrev pub chipCL : Channel → ℕ
 chipCL ch = ch .second .register % 2
 
 abbrev pub fromCM : ℕ → Signal
-fromCM start = plain 309355200000 (cm start) none chipCM
+fromCM start = plain weekL2 (cm start) none chipCM
 
 abbrev pub fromCL : ℕ → Signal
-fromCL start = plain 309355200000 none (cl start) chipCL
+fromCL start = plain weekL2 none (cl start) chipCL
 
 abbrev pub signalCM : ℕ → Signal
 signalCM prn = fromCM (startCM prn)
@@ -133,7 +147,7 @@ abbrev pub chipL5 : Channel → ℕ
 chipL5 ch = (stage 13 (ch .first .register) + stage 13 (ch .second .register)) % 2
 
 abbrev pub fromL5 : ℕ → Signal
-fromL5 start = plain 6187104000000 xa (xb start) chipL5
+fromL5 start = plain weekL5 xa (xb start) chipL5
 
 abbrev pub signalI5 : ℕ → Signal
 signalI5 prn = fromL5 (startI5 prn)
@@ -152,3 +166,7 @@ noSignal = plain 1 none none (λ ch. 0)
 
 abbrev pub signalOf : ℕ → ℕ → Signal
 signalOf n prn = getD (signals prn) (n - 1) noSignal
+
+-- W of a signal, the same for every PRN
+abbrev pub weekOf : ℕ → ℕ
+weekOf n = signalOf n 1 .week
