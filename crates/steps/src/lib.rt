@@ -110,7 +110,7 @@ fn next_epoch(before: Generator, after: Generator, epoch: u32) -> u32
 }
 
 // The delay line with the X2 chip of these registers taken in.
-fn next_line(x2a: u32, x2b: u32, line: u64) -> u64
+pub fn next_line(x2a: u32, x2b: u32, line: u64) -> u64
     requires { ⌜ line < 2 ^ 37 ⌝ }
     ensures { λ r. ⌜ r ≡ nextLine 37 x2a x2b line ⌝ }
 {

@@ -1,0 +1,80 @@
+-- What the functions of a seek hand to each other.
+-- Assumes nothing.
+use Prim.Native.Nat.{ℕ, _+_, _-_, _^_, _≤_, _<_}
+use mathlib.Core.Path.{_≡_}
+use lib.Count.{ones}
+use Rattle.machine.specs.Generators.{Kind, fresh}
+use Rattle.machine.specs.Signals.{Signal, signalP, x2a, x2b}
+use Rattle.machine.specs.Machine.{advance, opened}
+use Rattle.machine.specs.declared.Generator.{Generator}
+use Rattle.leaps.specs.declared.Leapt.{Leapt}
+use Rattle.week.specs.declared.Course.{Course}
+use Rattle.week.specs.declared.Standing.{Standing}
+use Rattle.week.specs.Leaps.{leapsTo}
+use Rattle.week.specs.Standing.{standingAt, generatorAt}
+use Rattle.week.specs.Week.{Courses, chipX2, lineFrom, channelAt, coursesP, courseX2A, courseX2B}
+use Rattle.seeks.specs.declared.Sought.{Sought}
+use Rattle.seeks.specs.declared.Landed.{Landed}
+use Rattle.seeks.specs.declared.Fill.{Fill}
+
+-- a course of numbers that fit the code's, at a place of its week
+pub record Fits (c : Course) (w : ℕ) : Type 0 where
+  pub cycle-some : 0 < c .cycle
+  pub period-some : 0 < c .period
+  pub period-in : c .period < 2 ^ 32
+  pub runs-in : c .runs ≤ c .period
+  pub place-in : w < c .week
+  pub hold-in : c .week ≤ c .stop + 2 ^ 32
+
+-- a generator where it stands, with its register brought there
+abbrev pub placedAs : Standing → Leapt → Sought
+placedAs at leapt =
+    record { generator = record { register = leapt .register; phase = at .phase; cycles = at .cycles; mode = at .mode }; count = leapt .count }
+
+-- a generator at a place, and the count raised by the ones of its phase
+abbrev pub sought : Kind → Course → ℕ → ℕ → Sought
+sought k c place count = record { generator = generatorAt k c place; count = count + ones (standingAt c place .phase) }
+
+-- a place of a week of so many, and room for the count
+pub record Asked (week place count : ℕ) : Type 0 where
+  pub place-in : place < week
+  pub count-in : count < 2 ^ 10
+
+-- X2A, X2B and the delay line at a place, filled from another on; the X2 chips are the same for every PRN
+pub record Filled (from place : ℕ) (f : Fill) : Type 0 where
+  pub third-is : f .third ≡ generatorAt x2a courseX2A place
+  pub fourth-is : f .fourth ≡ generatorAt x2b courseX2B place
+  pub delay-is : f .delay ≡ lineFrom 37 (chipX2 (signalP 1) coursesP) from (place - from) (2 ^ 37 - 1)
+
+-- the channel at a place, and the leaps that lead there
+abbrev pub landed : Signal → Courses → ℕ → ℕ → ℕ → Landed
+landed s c signal prn place =
+    record {
+      channel = channelAt s c signal prn place place;
+      leaps =
+          ones (standingAt (c .first) place .phase) + ones (standingAt (c .second) place .phase)
+          + ones (standingAt (c .third) (place - 37) .phase)
+          + ones (standingAt (c .fourth) (place - 37) .phase);
+    }
+
+abbrev pub landedAt : ℕ → ℕ → ℕ → Landed
+landedAt signal prn place = record { channel = advance place (opened signal prn); leaps = leapsTo signal prn place }
+
+-- of a signal with at most two generators
+abbrev pub plainLanded : ℕ → ℕ → ℕ → Generator → Generator → ℕ → Landed
+plainLanded signal prn place first second leaps =
+    record {
+      channel =
+          record {
+            signal = signal;
+            prn = prn;
+            place = place;
+            epoch = 0;
+            delay = 0;
+            first = first;
+            second = second;
+            third = fresh 0 0;
+            fourth = fresh 0 0;
+          };
+      leaps = leaps;
+    }
