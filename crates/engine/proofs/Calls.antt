@@ -5,13 +5,12 @@
 use Prim.Native.Nat.{ℕ, suc}
 use mathlib.Core.Bool.{true}
 use mathlib.Core.Path.{_≡_, refl, sym, ap, _∙_}
-use mathlib.Core.List.{[], _∷_}
 use Rattle.registers.proofs.Repeat.{times-last}
 use Rattle.machine.specs.Machine.{opened, step, advance, chip, inRange, isSignal, isPrn}
 use Rattle.machine.specs.declared.Channel.{Channel}
 use Rattle.machine.proofs.Ranges.{signal-in, prn-in}
 use Rattle.machine.proofs.RangeLaw.{opened-in, advance-in}
-use Rattle.engine.specs.Replies.{refusal, openReply, stepReply}
+use Rattle.engine.specs.Replies.{refusal, openReply, steppedWith, stepReply}
 
 pub signal-257 : (prn : ℕ) → openReply 257 prn ≡ refusal 1
 unfolding openReply
@@ -35,7 +34,7 @@ first-written = refl
 
 -- ---- steps from an opened channel
 
-accepted : (ch : Channel) → inRange ch ≡ true → stepReply ch ≡ record { refused = 0; chips = chip ch ∷ []; channel = step ch }
+accepted : (ch : Channel) → inRange ch ≡ true → stepReply ch ≡ steppedWith (chip ch) (step ch)
 unfolding stepReply
 accepted ch e = simp e
 
@@ -45,10 +44,10 @@ one-more n ch = sym (times-last step n ch)
 
 pub steps-accepted : (signal prn n : ℕ) → isSignal signal ≡ true → isPrn prn ≡ true
     → stepReply (advance n (opened signal prn))
-    ≡ record { refused = 0; chips = chip (advance n (opened signal prn)) ∷ []; channel = advance (suc n) (opened signal prn) }
+    ≡ steppedWith (chip (advance n (opened signal prn))) (advance (suc n) (opened signal prn))
 steps-accepted signal prn n s p =
     let here = advance n (opened signal prn) in
     let listed = signal-in signal s in
     let ranged = advance-in n (opened signal prn) (opened-in signal prn (listed .0) (listed .1) (prn-in prn p)) in
     accepted here ranged
-    ∙ ap (λ (next : Channel). record { refused = 0; chips = chip here ∷ []; channel = next }) (one-more n (opened signal prn))
+    ∙ ap (steppedWith (chip here)) (one-more n (opened signal prn))

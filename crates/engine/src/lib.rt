@@ -5,7 +5,7 @@ ghost use Prim.Native.Nat.{_≤_};
 ghost use Rattle.starts.specs.Starts.{Listed};
 ghost use Rattle.machine.specs.Machine.{atZero, openedAs, opened};
 ghost use Rattle.machine.specs.Signals.{signalP};
-ghost use Rattle.engine.specs.Replies.{ofOpened, openReply, ofStepped, stepReply};
+ghost use Rattle.engine.specs.Replies.{ofOpened, openReply, ofSought, seekReply, ofStepped, stepReply};
 use machine::Channel;
 
 // ---- open
@@ -104,6 +104,32 @@ pub fn open(signal: u64, prn: u64) -> Opened
     }
     let ch = open_listed(signal as u32, prn as u32);
     Opened::At(ch)
+}
+
+// ---- seek
+
+pub enum Sought {
+    // The leaps made, and the channel at the place sought.
+    At(u32, Channel),
+    // 4: a field of the channel out of range; the channel as it came.
+    OutOfRange(Channel),
+    // 3: place not below W; the channel as it came.
+    NoPlace(Channel),
+}
+
+// The channel of the same signal and PRN at any place of the week, and the leaps that led there. The place is tested whole.
+pub fn seek(ch: Channel, place: u64) -> Sought
+    ensures { λ r. ⌜ ofSought r ≡ seekReply ch place ⌝ }
+{
+    if !ranges::in_range(ch) {
+        return Sought::OutOfRange(ch);
+    }
+    if ranges::week_of(ch.signal) <= place {
+        return Sought::NoPlace(ch);
+    }
+    let landed = seeks::land(ch.signal, ch.prn, place);
+    let there = landed.channel;
+    Sought::At(landed.leaps, there)
 }
 
 // ---- step

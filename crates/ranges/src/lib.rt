@@ -1,8 +1,9 @@
-// The ranges of signals and PRNs, and refusal 4: whether a channel's fields are in theirs. Tests are joined by `&`, so that no branch is left.
+// The ranges of signals, PRNs and places, and refusal 4: whether a channel's fields are in theirs. Tests are joined by `&`, so that no branch is left.
 ghost use mathlib.Core.Path.{_≡_};
 ghost use mathlib.Core.Bool.{false};
+ghost use Prim.Native.Nat.{_≤_};
 ghost use Rattle.machine.specs.Generators.{modeInRange, fieldsInRange};
-ghost use Rattle.machine.specs.Signals.{signalCA, signalP, signalCM, signalCL, signalI5};
+ghost use Rattle.machine.specs.Signals.{weekOf, signalCA, signalP, signalCM, signalCL, signalI5};
 ghost use Rattle.machine.specs.Machine.{isSignal, isPrn, inRangeAs, inRange};
 ghost use Rattle.ranges.specs.Inner.{plainInRange, numberedInRange};
 use machine::Channel;
@@ -21,6 +22,22 @@ pub fn is_prn(n: u64) -> bool
     ensures { λ r. ⌜ r ≡ isPrn n ⌝ }
 {
     (1 <= n) & (n <= 37)
+}
+
+// W of a signal that there is. "Place not below W" is refusal 3.
+pub fn week_of(signal: u32) -> u64
+    requires { ⌜ 1 ≤ signal ⌝ }
+    requires { ⌜ signal ≤ 6 ⌝ }
+    ensures { λ r. ⌜ r ≡ weekOf signal ⌝ }
+{
+    match signal {
+        1 => machine::WEEK_CA,
+        2 => machine::WEEK_P,
+        3 => machine::WEEK_L2,
+        4 => machine::WEEK_L2,
+        5 => machine::WEEK_L5,
+        _ => machine::WEEK_L5,
+    }
 }
 
 // ---- refusal 4, of a generator

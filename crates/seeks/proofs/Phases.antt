@@ -2,7 +2,7 @@
 --     fits        a course whose numbers fit the code's, by a computed test
 --     phase-lt    the phase is below the cycle's length
 --     leap-asks   so a leap can be asked for
---     sought-is   the parts make up the generator
+--     brought-is   the parts make up the generator
 -- Assumes nothing.
 use mathlib.Core.Path.{_≡_, refl, sym, ap, _∙_}
 use mathlib.Core.Bool.{Bool, _&&_}
@@ -18,7 +18,7 @@ use Rattle.machine.proofs.Tests.{chosen}
 use Rattle.week.specs.declared.Course.{Course}
 use Rattle.week.specs.declared.Standing.{Standing}
 use Rattle.week.specs.Standing.{inPeriod, standingAt, generatorAt}
-use Rattle.seeks.specs.Inner.{Fits, placedAs, sought}
+use Rattle.seeks.specs.Inner.{Fits, placedAs, brought}
 
 -- ---- courses
 
@@ -59,8 +59,8 @@ leap-asks c stages digits place count start at e some long start-in count-in =
       count-in = omega arith;
     }
 
-pub sought-is : (k : Kind) (c : Course) (place count start : ℕ) (at : Standing) (leapt : Leapt)
+pub brought-is : (k : Kind) (c : Course) (place count start : ℕ) (at : Standing) (leapt : Leapt)
     → at ≡ standingAt c place → start ≡ k .start → leapt ≡ leapBy (k .shift) (at .phase) (record { register = start; count = count })
-    → placedAs at leapt ≡ sought k c place count
+    → placedAs at leapt ≡ brought k c place count
 unfolding generatorAt
-sought-is k c place count start at leapt ea es el = rw (el, es, ea)
+brought-is k c place count start at leapt ea es el = rw (el, es, ea)

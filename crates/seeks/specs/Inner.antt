@@ -10,10 +10,10 @@ use Rattle.machine.specs.declared.Generator.{Generator}
 use Rattle.leaps.specs.declared.Leapt.{Leapt}
 use Rattle.week.specs.declared.Course.{Course}
 use Rattle.week.specs.declared.Standing.{Standing}
-use Rattle.week.specs.Leaps.{leapsTo}
+use Rattle.seeks.specs.Leaps.{leapsTo}
 use Rattle.week.specs.Standing.{standingAt, generatorAt}
 use Rattle.week.specs.Week.{Courses, chipX2, lineFrom, channelAt, coursesP, courseX2A, courseX2B}
-use Rattle.seeks.specs.declared.Sought.{Sought}
+use Rattle.seeks.specs.declared.Brought.{Brought}
 use Rattle.seeks.specs.declared.Landed.{Landed}
 use Rattle.seeks.specs.declared.Fill.{Fill}
 
@@ -27,13 +27,13 @@ pub record Fits (c : Course) (w : ℕ) : Type 0 where
   pub hold-in : c .week ≤ c .stop + 2 ^ 32
 
 -- a generator where it stands, with its register brought there
-abbrev pub placedAs : Standing → Leapt → Sought
+abbrev pub placedAs : Standing → Leapt → Brought
 placedAs at leapt =
     record { generator = record { register = leapt .register; phase = at .phase; cycles = at .cycles; mode = at .mode }; count = leapt .count }
 
 -- a generator at a place, and the count raised by the ones of its phase
-abbrev pub sought : Kind → Course → ℕ → ℕ → Sought
-sought k c place count = record { generator = generatorAt k c place; count = count + ones (standingAt c place .phase) }
+abbrev pub brought : Kind → Course → ℕ → ℕ → Brought
+brought k c place count = record { generator = generatorAt k c place; count = count + ones (standingAt c place .phase) }
 
 -- a place of a week of so many, and room for the count
 pub record Asked (week place count : ℕ) : Type 0 where

@@ -10,7 +10,7 @@ ghost use Rattle.machine.specs.Signals.{signalCA, signalP, fromCM, fromCL, from
 ghost use Rattle.week.specs.Standing.{on, inPeriod, standingAt, generatorAt};
 ghost use Rattle.week.specs.Week.{courseG, courseX1A, courseX1B, courseX2A, courseX2B, courseCM, courseCL, courseXA, courseXB};
 ghost use Rattle.week.specs.Week.{coursesCA, coursesP, coursesCM, coursesCL, coursesL5};
-ghost use Rattle.seeks.specs.Inner.{Fits, placedAs, sought, Asked, Filled, plainLanded, landed, landedAt};
+ghost use Rattle.seeks.specs.Inner.{Fits, placedAs, brought, Asked, Filled, plainLanded, landed, landedAt};
 use leaps::Leapt;
 use machine::Channel;
 use machine::Generator;
@@ -69,13 +69,13 @@ fn standing(c: Course, place: u64) -> Standing
 // ---- a generator at a place
 
 // A generator, and how many leaps were made to bring it, and those before it, where they are.
-pub struct Sought {
+pub struct Brought {
     pub generator: Generator,
     pub count: u32,
 }
 
 // A generator where it stands, with its register brought there.
-fn placed(at: Standing, leapt: Leapt) -> Sought
+fn placed(at: Standing, leapt: Leapt) -> Brought
     ensures { λ r. ⌜ r ≡ placedAs at leapt ⌝ }
 {
     let mode = at.mode;
@@ -85,15 +85,15 @@ fn placed(at: Standing, leapt: Leapt) -> Sought
         cycles: at.cycles,
         mode,
     };
-    Sought {
+    Brought {
         generator,
         count: leapt.count,
     }
 }
 
-fn seek_g1(place: u64, count: u32) -> Sought
+fn seek_g1(place: u64, count: u32) -> Brought
     requires { ⌜ Asked weekCA place count ⌝ }
-    ensures { λ r. ⌜ r ≡ sought g1 courseG place count ⌝ }
+    ensures { λ r. ⌜ r ≡ brought g1 courseG place count ⌝ }
 {
     let at = standing(week::course_g(), place);
     let from = Leapt {
@@ -103,9 +103,9 @@ fn seek_g1(place: u64, count: u32) -> Sought
     placed(at, leaps::leap_g1(from, at.phase))
 }
 
-fn seek_g2(place: u64, count: u32) -> Sought
+fn seek_g2(place: u64, count: u32) -> Brought
     requires { ⌜ Asked weekCA place count ⌝ }
-    ensures { λ r. ⌜ r ≡ sought g2 courseG place count ⌝ }
+    ensures { λ r. ⌜ r ≡ brought g2 courseG place count ⌝ }
 {
     let at = standing(week::course_g(), place);
     let from = Leapt {
@@ -115,9 +115,9 @@ fn seek_g2(place: u64, count: u32) -> Sought
     placed(at, leaps::leap_g2(from, at.phase))
 }
 
-fn seek_x1a(place: u64, count: u32) -> Sought
+fn seek_x1a(place: u64, count: u32) -> Brought
     requires { ⌜ Asked weekP place count ⌝ }
-    ensures { λ r. ⌜ r ≡ sought x1a courseX1A place count ⌝ }
+    ensures { λ r. ⌜ r ≡ brought x1a courseX1A place count ⌝ }
 {
     let at = standing(week::course_x1a(), place);
     let from = Leapt {
@@ -127,9 +127,9 @@ fn seek_x1a(place: u64, count: u32) -> Sought
     placed(at, leaps::leap_x1a(from, at.phase))
 }
 
-fn seek_x1b(place: u64, count: u32) -> Sought
+fn seek_x1b(place: u64, count: u32) -> Brought
     requires { ⌜ Asked weekP place count ⌝ }
-    ensures { λ r. ⌜ r ≡ sought x1b courseX1B place count ⌝ }
+    ensures { λ r. ⌜ r ≡ brought x1b courseX1B place count ⌝ }
 {
     let at = standing(week::course_x1b(), place);
     let from = Leapt {
@@ -139,9 +139,9 @@ fn seek_x1b(place: u64, count: u32) -> Sought
     placed(at, leaps::leap_x1b(from, at.phase))
 }
 
-fn seek_x2a(place: u64, count: u32) -> Sought
+fn seek_x2a(place: u64, count: u32) -> Brought
     requires { ⌜ Asked weekP place count ⌝ }
-    ensures { λ r. ⌜ r ≡ sought x2a courseX2A place count ⌝ }
+    ensures { λ r. ⌜ r ≡ brought x2a courseX2A place count ⌝ }
 {
     let at = standing(week::course_x2a(), place);
     let from = Leapt {
@@ -151,9 +151,9 @@ fn seek_x2a(place: u64, count: u32) -> Sought
     placed(at, leaps::leap_x2a(from, at.phase))
 }
 
-fn seek_x2b(place: u64, count: u32) -> Sought
+fn seek_x2b(place: u64, count: u32) -> Brought
     requires { ⌜ Asked weekP place count ⌝ }
-    ensures { λ r. ⌜ r ≡ sought x2b courseX2B place count ⌝ }
+    ensures { λ r. ⌜ r ≡ brought x2b courseX2B place count ⌝ }
 {
     let at = standing(week::course_x2b(), place);
     let from = Leapt {
@@ -163,10 +163,10 @@ fn seek_x2b(place: u64, count: u32) -> Sought
     placed(at, leaps::leap_x2b(from, at.phase))
 }
 
-fn seek_cm(start: u32, place: u64, count: u32) -> Sought
+fn seek_cm(start: u32, place: u64, count: u32) -> Brought
     requires { ⌜ start < 2 ^ 27 ⌝ }
     requires { ⌜ Asked weekL2 place count ⌝ }
-    ensures { λ r. ⌜ r ≡ sought (cm start) courseCM place count ⌝ }
+    ensures { λ r. ⌜ r ≡ brought (cm start) courseCM place count ⌝ }
 {
     let at = standing(week::course_cm(), place);
     let from = Leapt {
@@ -176,10 +176,10 @@ fn seek_cm(start: u32, place: u64, count: u32) -> Sought
     placed(at, leaps::leap_l2(from, at.phase))
 }
 
-fn seek_cl(start: u32, place: u64, count: u32) -> Sought
+fn seek_cl(start: u32, place: u64, count: u32) -> Brought
     requires { ⌜ start < 2 ^ 27 ⌝ }
     requires { ⌜ Asked weekL2 place count ⌝ }
-    ensures { λ r. ⌜ r ≡ sought (cl start) courseCL place count ⌝ }
+    ensures { λ r. ⌜ r ≡ brought (cl start) courseCL place count ⌝ }
 {
     let at = standing(week::course_cl(), place);
     let from = Leapt {
@@ -189,9 +189,9 @@ fn seek_cl(start: u32, place: u64, count: u32) -> Sought
     placed(at, leaps::leap_l2(from, at.phase))
 }
 
-fn seek_xa(place: u64, count: u32) -> Sought
+fn seek_xa(place: u64, count: u32) -> Brought
     requires { ⌜ Asked weekL5 place count ⌝ }
-    ensures { λ r. ⌜ r ≡ sought xa courseXA place count ⌝ }
+    ensures { λ r. ⌜ r ≡ brought xa courseXA place count ⌝ }
 {
     let at = standing(week::course_xa(), place);
     let from = Leapt {
@@ -201,10 +201,10 @@ fn seek_xa(place: u64, count: u32) -> Sought
     placed(at, leaps::leap_xa(from, at.phase))
 }
 
-fn seek_xb(start: u32, place: u64, count: u32) -> Sought
+fn seek_xb(start: u32, place: u64, count: u32) -> Brought
     requires { ⌜ start < 2 ^ 13 ⌝ }
     requires { ⌜ Asked weekL5 place count ⌝ }
-    ensures { λ r. ⌜ r ≡ sought (xb start) courseXB place count ⌝ }
+    ensures { λ r. ⌜ r ≡ brought (xb start) courseXB place count ⌝ }
 {
     let at = standing(week::course_xb(), place);
     let from = Leapt {

@@ -37,7 +37,7 @@ same : (t : Bool) → cond {A = ℕ} t 0 0 ≡ 0
 same true = refl
 same false = refl
 
-no-line : (x : ℕ → ℕ) (from n : ℕ) → lineFrom 0 x from n 0 ≡ 0
+pub no-line : (x : ℕ → ℕ) (from n : ℕ) → lineFrom 0 x from n 0 ≡ 0
 unfolding lineFrom
 no-line x from zero = refl
 no-line x from (suc n) = mod-one _

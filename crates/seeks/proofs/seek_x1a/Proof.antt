@@ -9,7 +9,7 @@ use Rattle.week.specs.declared.Course.{Course}
 use Rattle.week.specs.Standing.{standingAt}
 use Rattle.week.specs.Week.{courseX1A}
 use Rattle.seeks.specs.Inner.{Fits}
-use Rattle.seeks.proofs.Phases.{fitting, fits, leap-asks, sought-is}
+use Rattle.seeks.proofs.Phases.{fitting, fits, leap-asks, brought-is}
 use Rattle.seeks.proofs.seek_x1a.Statement.{statement}
 use Rattle.seeks.proofs.seek_x1a.Tie as tie
 
@@ -41,7 +41,7 @@ returns : tie.Need-returns
 returns c =
     let a = c .before .before .before .before .before .args in
     c .placed .ensures
-    ∙ sought-is x1a courseX1A (a .place) (a .count) (c .before .before .start-x1a .result) (c .before .before .before .standing .result) (c .before .leap-x1a .result)
+    ∙ brought-is x1a courseX1A (a .place) (a .count) (c .before .before .start-x1a .result) (c .before .before .before .standing .result) (c .before .leap-x1a .result)
     (c .before .before .before .standing .ensures ∙ ap (λ (k : Course). standingAt k (a .place)) (c .before .before .before .before .course-x1a .ensures))
     (c .before .before .start-x1a .ensures)
     (c .before .leap-x1a .ensures)

@@ -9,7 +9,7 @@ use Rattle.week.specs.declared.Course.{Course}
 use Rattle.week.specs.Standing.{standingAt}
 use Rattle.week.specs.Week.{courseX1B}
 use Rattle.seeks.specs.Inner.{Fits}
-use Rattle.seeks.proofs.Phases.{fitting, fits, leap-asks, sought-is}
+use Rattle.seeks.proofs.Phases.{fitting, fits, leap-asks, brought-is}
 use Rattle.seeks.proofs.seek_x1b.Statement.{statement}
 use Rattle.seeks.proofs.seek_x1b.Tie as tie
 
@@ -41,7 +41,7 @@ returns : tie.Need-returns
 returns c =
     let a = c .before .before .before .before .before .args in
     c .placed .ensures
-    ∙ sought-is x1b courseX1B (a .place) (a .count) (c .before .before .start-x1b .result) (c .before .before .before .standing .result) (c .before .leap-x1b .result)
+    ∙ brought-is x1b courseX1B (a .place) (a .count) (c .before .before .start-x1b .result) (c .before .before .before .standing .result) (c .before .leap-x1b .result)
     (c .before .before .before .standing .ensures ∙ ap (λ (k : Course). standingAt k (a .place)) (c .before .before .before .before .course-x1b .ensures))
     (c .before .before .start-x1b .ensures)
     (c .before .leap-x1b .ensures)

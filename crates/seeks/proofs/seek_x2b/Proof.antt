@@ -9,7 +9,7 @@ use Rattle.week.specs.declared.Course.{Course}
 use Rattle.week.specs.Standing.{standingAt}
 use Rattle.week.specs.Week.{courseX2B}
 use Rattle.seeks.specs.Inner.{Fits}
-use Rattle.seeks.proofs.Phases.{fitting, fits, leap-asks, sought-is}
+use Rattle.seeks.proofs.Phases.{fitting, fits, leap-asks, brought-is}
 use Rattle.seeks.proofs.seek_x2b.Statement.{statement}
 use Rattle.seeks.proofs.seek_x2b.Tie as tie
 
@@ -41,7 +41,7 @@ returns : tie.Need-returns
 returns c =
     let a = c .before .before .before .before .before .args in
     c .placed .ensures
-    ∙ sought-is x2b courseX2B (a .place) (a .count) (c .before .before .start-x2b .result) (c .before .before .before .standing .result) (c .before .leap-x2b .result)
+    ∙ brought-is x2b courseX2B (a .place) (a .count) (c .before .before .start-x2b .result) (c .before .before .before .standing .result) (c .before .leap-x2b .result)
     (c .before .before .before .standing .ensures ∙ ap (λ (k : Course). standingAt k (a .place)) (c .before .before .before .before .course-x2b .ensures))
     (c .before .before .start-x2b .ensures)
     (c .before .leap-x2b .ensures)

@@ -9,7 +9,7 @@ use Rattle.week.specs.declared.Course.{Course}
 use Rattle.week.specs.Standing.{standingAt}
 use Rattle.week.specs.Week.{courseXA}
 use Rattle.seeks.specs.Inner.{Fits}
-use Rattle.seeks.proofs.Phases.{fitting, fits, leap-asks, sought-is}
+use Rattle.seeks.proofs.Phases.{fitting, fits, leap-asks, brought-is}
 use Rattle.seeks.proofs.seek_xa.Statement.{statement}
 use Rattle.seeks.proofs.seek_xa.Tie as tie
 
@@ -41,7 +41,7 @@ returns : tie.Need-returns
 returns c =
     let a = c .before .before .before .before .before .args in
     c .placed .ensures
-    ∙ sought-is xa courseXA (a .place) (a .count) (c .before .before .start-xa .result) (c .before .before .before .standing .result) (c .before .leap-xa .result)
+    ∙ brought-is xa courseXA (a .place) (a .count) (c .before .before .start-xa .result) (c .before .before .before .standing .result) (c .before .leap-xa .result)
     (c .before .before .before .standing .ensures ∙ ap (λ (k : Course). standingAt k (a .place)) (c .before .before .before .before .course-xa .ensures))
     (c .before .before .start-xa .ensures)
     (c .before .leap-xa .ensures)
