@@ -1,0 +1,2 @@
+-- What the standards say.
+pub mod Standard
