@@ -1,16 +1,27 @@
--- What the replies say of open and step together.
+-- What the replies say of open, seek and step together.
 --     257 and 4,294,967,297 are refused and not narrowed; of two refusals the first written is given
 --     steps-accepted   a channel that open gives is stepped for ever, and the n-th step gives the machine's chip at n
+--     seek-forgets     of the old channel only signal and PRN matter
+--     seeks-accepted   from wherever steps lead, a seek leads to every place of the week, and W is refused with 3
+--     chip-there       and the step from there gives the standards' chip
 -- Assumes nothing.
-use Prim.Native.Nat.{ℕ, suc}
-use mathlib.Core.Bool.{true}
-use mathlib.Core.Path.{_≡_, refl, sym, ap, _∙_}
+use Prim.Native.Nat.{ℕ, suc, _≤_, _<_}
+use mathlib.Core.Bool.{true, false}
+use mathlib.Core.Path.{_≡_, refl, sym, ap, ap₂, subst, _∙_}
+use mathlib.Core.List.{[], _∷_}
+use native.Mathlib.Nat.{mod-eq-of-lt}
+use borrow.Author.Tests.{lt-ltb, le-ltb}
 use Rattle.registers.proofs.Repeat.{times-last}
+use Rattle.machine.specs.Signals.{weekOf}
 use Rattle.machine.specs.Machine.{opened, step, advance, chip, inRange, isSignal, isPrn}
 use Rattle.machine.specs.declared.Channel.{Channel}
 use Rattle.machine.proofs.Ranges.{signal-in, prn-in}
 use Rattle.machine.proofs.RangeLaw.{opened-in, advance-in}
-use Rattle.engine.specs.Replies.{refusal, openReply, steppedWith, stepReply}
+use Rattle.week.proofs.LawOfTheWeek.{law-of-the-week}
+use Rattle.standard.specs.Standard.{standard}
+use Rattle.standard.proofs.EveryChip.{every-chip}
+use Rattle.seeks.specs.Leaps.{leapsTo}
+use Rattle.engine.specs.Replies.{refusal, openReply, Reply, refusedWith, soughtWith, seekReply, steppedWith, stepReply}
 
 pub signal-257 : (prn : ℕ) → openReply 257 prn ≡ refusal 1
 unfolding openReply
@@ -51,3 +62,44 @@ steps-accepted signal prn n s p =
     let ranged = advance-in n (opened signal prn) (opened-in signal prn (listed .0) (listed .1) (prn-in prn p)) in
     accepted here ranged
     ∙ ap (steppedWith (chip here)) (one-more n (opened signal prn))
+
+-- ---- seeks
+
+module _ (ch : Channel) (place : ℕ) where
+  seek-accepted : inRange ch ≡ true → place < weekOf (ch .signal)
+      → seekReply ch place ≡ soughtWith (leapsTo (ch .signal) (ch .prn) place) (advance place (opened (ch .signal) (ch .prn)))
+  unfolding seekReply
+  seek-accepted e h = simp (e, lt-ltb place (weekOf (ch .signal)) h)
+
+  pub seek-past : inRange ch ≡ true → weekOf (ch .signal) ≤ place → seekReply ch place ≡ refusedWith 3 ch
+  unfolding seekReply
+  seek-past e h = simp (e, le-ltb place (weekOf (ch .signal)) h)
+
+  -- "the one written first"
+  pub seek-out-of-range : inRange ch ≡ false → seekReply ch place ≡ refusedWith 4 ch
+  unfolding seekReply
+  seek-out-of-range e = simp e
+
+pub seek-forgets : (ch old : Channel) (place : ℕ) → inRange ch ≡ true → inRange old ≡ true → ch .signal ≡ old .signal → ch .prn ≡ old .prn
+    → place < weekOf (ch .signal) → seekReply ch place ≡ seekReply old place
+seek-forgets ch old place e f s p h =
+    seek-accepted ch place e h
+    ∙ ap₂ (λ (n i : ℕ). soughtWith (leapsTo n i place) (advance place (opened n i))) s p
+    ∙ sym (seek-accepted old place f (subst (λ (n : ℕ). place < weekOf n) s h))
+
+module _ (signal prn : ℕ) (is-signal : isSignal signal ≡ true) (is-prn : isPrn prn ≡ true) where
+  pub seeks-accepted : (n place : ℕ) → place < weekOf signal
+      → seekReply (advance n (opened signal prn)) place ≡ soughtWith (leapsTo signal prn place) (advance place (opened signal prn))
+  seeks-accepted n place h =
+      let here = advance n (opened signal prn) in
+      let listed = signal-in signal is-signal in
+      let ranged = advance-in n (opened signal prn) (opened-in signal prn (listed .0) (listed .1) (prn-in prn is-prn)) in
+      let same-signal : here .signal ≡ signal = ap (λ (ch : Channel). ch .signal) (law-of-the-week signal prn n) in
+      let same-prn : here .prn ≡ prn = ap (λ (ch : Channel). ch .prn) (law-of-the-week signal prn n) in
+      seek-accepted here place ranged (subst (λ (s : ℕ). place < weekOf s) (sym same-signal) h)
+      ∙ ap₂ (λ (s i : ℕ). soughtWith (leapsTo s i place) (advance place (opened s i))) same-signal same-prn
+
+  pub chip-there : (place : ℕ) → place < weekOf signal → stepReply (advance place (opened signal prn)) .chips ≡ standard signal prn place ∷ []
+  chip-there place h =
+      ap (λ (r : Reply). r .chips) (steps-accepted signal prn place is-signal is-prn)
+      ∙ ap (λ (b : ℕ). b ∷ []) (every-chip signal prn place is-signal is-prn ∙ ap (standard signal prn) (mod-eq-of-lt h))

@@ -16,7 +16,7 @@ use Rattle.week.specs.declared.Course.{Course}
 use Rattle.week.specs.Standing.{standingAt, generatorAt}
 use Rattle.week.specs.Week.{Courses, courses, noCourses, coursesOf, courseG, courseX1A, courseX1B, courseX2A, courseX2B, courseCM, courseCL, courseXA, courseXB, coursesL5, idle}
 use Rattle.week.proofs.LawOfTheWeek.{law-of-the-week}
-use Rattle.seeks.specs.Leaps.{onesIn, leapsTo}
+use Rattle.seeks.specs.Leaps.{phaseOnes, leapsTo}
 use Rattle.seeks.proofs.Phases.{phase-lt}
 
 -- the most leaps of each signal, in the order of the list

@@ -21,7 +21,7 @@ use Rattle.machine.specs.declared.Generator.{Generator}
 use Rattle.machine.specs.declared.Channel.{Channel}
 use Rattle.week.specs.declared.Course.{Course}
 use Rattle.week.specs.declared.Standing.{Standing}
-use Rattle.seeks.specs.Leaps.{onesIn, leapsTo}
+use Rattle.seeks.specs.Leaps.{phaseOnes, leapsTo}
 use Rattle.week.specs.Standing.{inPeriod, standingAt, generatorAt}
 use Rattle.week.specs.Week.{Courses, chipX2, lineAt, lineFrom, idle, plainCourses, coursesP, coursesOf, courseX1A, courseX1B, courseX2A, courseX2B, channelAt}
 use Rattle.week.proofs.Weeks.{no-line}
@@ -146,7 +146,7 @@ unfolding leapsTo generatorAt
 landed-is signal prn place h =
     let here = sym (at-place signal prn place h) in
     let earlier = sym (at-place signal prn (place - 37) (omega arith)) in
-    λ j. record { channel = here j; leaps = onesIn (here j) (earlier j) }
+    λ j. record { channel = here j; leaps = phaseOnes (here j) (earlier j) }
 
 -- by the signal's number
 pub numbered : (k signal prn place : ℕ) → signal ≡ k → place < weekOf signal → landed (signalOf k prn) (coursesOf k) signal prn place ≡ landedAt signal prn place

@@ -1,1 +1,3 @@
 pub mod Sequences
+pub mod Phases
+pub mod EveryChip

@@ -1,12 +1,14 @@
 -- The delay line forgets: as many steps as it has bits leave nothing of what it held before.
---     line-from   the line at a place, filled from as many places before as it has bits (from place 0 if there are fewer), is the machine's
+--     line-from     the line at a place, filled from as many places before as it has bits (from place 0 if there are fewer), is the machine's
+--     recent        its digit k is the chip taken in k + 1 steps ago
+--     older         or, if there were fewer steps, a digit of the line at the start
 -- Assumes nothing.
 use mathlib.Core.Path.{_≡_, refl, sym, ap, ap₂, _∙_}
 use mathlib.Core.Logic.{⊎-elim}
 use Prim.Native.Nat.{ℕ, zero, suc, _+_, _-_, _*_, _/_, _%_, _^_, _≤_, _<_}
-use native.Mathlib.Nat.{mod-lt, mod-eq-of-lt, mul-add-mod-self-right, div-add-mod', add-zero, add-assoc, add-suc, pow-suc, mul-one, zero-add}
+use native.Mathlib.Nat.{mod-lt, mod-eq-of-lt, mul-add-mod-self-right, div-add-mod', add-zero, add-assoc, add-suc, pow-suc, mul-one, zero-add, not-suc-le-zero}
 use native.Mathlib.Omega.{arith}
-use lib.Pow.{pow-pos}
+use lib.Pow.{pow-pos, field, mod-mod-pow, shr-shr}
 use Rattle.week.specs.Week.{lineFrom}
 use Rattle.week.proofs.Circle.{less-or}
 
@@ -77,3 +79,47 @@ module _ (bits : ℕ) (x : ℕ → ℕ) where
       ∙ sym (line-add 0 (n - bits) bits line)
       ∙ ap (λ (m : ℕ). lineFrom bits x 0 m line) sum)
       (less-or n bits)
+
+-- ---- its digits
+
+-- a digit below the cut
+digit-below : (y bits k : ℕ) → k < bits → y % 2 ^ bits / 2 ^ k % 2 ≡ y / 2 ^ k % 2
+digit-below y bits k h =
+    let width : bits ≡ bits - 1 - k + 1 + k = omega arith in
+    ap (λ (n : ℕ). y % 2 ^ n / 2 ^ k % 2) width
+    ∙ ap (λ (n : ℕ). n % 2) (field y (bits - 1 - k + 1) k)
+    ∙ mod-mod-pow (y / 2 ^ k) (bits - 1 - k) 1
+
+digit-up : (y b bits k : ℕ) → b < 2 → suc k < bits → (y * 2 + b) % 2 ^ bits / 2 ^ suc k % 2 ≡ y / 2 ^ k % 2
+digit-up y b bits k h l =
+    let one : suc k ≡ 1 + k = omega arith in
+    let half : (y * 2 + b) / 2 ^ 1 ≡ y = omega arith in
+    digit-below (y * 2 + b) bits (suc k) l
+    ∙ ap (λ (n : ℕ). (y * 2 + b) / 2 ^ n % 2) one
+    ∙ ap (λ (n : ℕ). n % 2) (sym (shr-shr (y * 2 + b) 1 k) ∙ ap (λ (n : ℕ). n / 2 ^ k) half)
+
+digit-first : (y b bits : ℕ) → b < 2 → 0 < bits → (y * 2 + b) % 2 ^ bits / 2 ^ 0 % 2 ≡ b
+digit-first y b bits h l = digit-below (y * 2 + b) bits 0 l ∙ let odd : (y * 2 + b) / 1 % 2 ≡ b = omega arith in odd
+
+module _ (bits : ℕ) (x : ℕ → ℕ) (small : (m : ℕ) → x m < 2) (from line : ℕ) where
+  pub recent : (n k : ℕ) → k < n → k < bits → lineFrom bits x from n line / 2 ^ k % 2 ≡ x (from + (n - 1 - k))
+  unfolding lineFrom
+  recent zero k h l = absurd (not-suc-le-zero h)
+  recent (suc n) zero h l =
+      let back : from + n ≡ from + (suc n - 1 - 0) = omega arith in
+      digit-first (lineFrom bits x from n line) (x (from + n)) bits (small (from + n)) l ∙ ap x back
+  recent (suc n) (suc k) h l =
+      let back : from + (n - 1 - k) ≡ from + (suc n - 1 - suc k) = omega arith in
+      digit-up (lineFrom bits x from n line) (x (from + n)) bits k (small (from + n)) l
+      ∙ recent n k (omega arith) (omega arith)
+      ∙ ap x back
+
+  pub older : (n k : ℕ) → n ≤ k → k < bits → lineFrom bits x from n line / 2 ^ k % 2 ≡ line / 2 ^ (k - n) % 2
+  unfolding lineFrom
+  older zero k h l = let all : k ≡ k - 0 = omega arith in ap (λ (m : ℕ). line / 2 ^ m % 2) all
+  older (suc n) zero h l = absurd (not-suc-le-zero h)
+  older (suc n) (suc k) h l =
+      let left : k - n ≡ suc k - suc n = omega arith in
+      digit-up (lineFrom bits x from n line) (x (from + n)) bits k (small (from + n)) l
+      ∙ older n k (omega arith) (omega arith)
+      ∙ ap (λ (m : ℕ). line / 2 ^ m % 2) left

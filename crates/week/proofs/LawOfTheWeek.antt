@@ -2,13 +2,15 @@
 --     law-of-the-week   n steps on from the opened channel, the stepped machine has the fields of `Week` at n modulo W
 --     weeks-pass        whole weeks of steps make no difference
 --     week-passes       W steps bring the opened channel back
+--     last-step         and a step from the last place does
 -- Assumes nothing.
 use mathlib.Core.Path.{_≡_, refl, sym, ap, _∙_}
-use Prim.Native.Nat.{ℕ, _%_, _<_}
+use Prim.Native.Nat.{ℕ, suc, _%_, _<_}
 use native.Mathlib.Nat.{mod-self, mod-eq-of-lt, mod-mod, mod-lt, zero-mod}
 use Rattle.registers.specs.Times.{times}
+use Rattle.registers.proofs.Repeat.{times-last}
 use Rattle.machine.specs.Signals.{signalOf, weekOf}
-use Rattle.machine.specs.Machine.{advance, opened}
+use Rattle.machine.specs.Machine.{step, advance, opened}
 use Rattle.machine.specs.declared.Channel.{Channel}
 use Rattle.machine.proofs.Numbered.{week-is}
 use Rattle.week.specs.Week.{coursesOf, channelAt}
@@ -36,3 +38,9 @@ module _ (signal prn : ℕ) where
     where
       no-step : advance 0 (opened signal prn) ≡ opened signal prn
       no-step = unfold advance times in refl
+
+  pub last-step : (n : ℕ) → suc n ≡ weekOf signal → step (advance n (opened signal prn)) ≡ opened signal prn
+  last-step n e = one-more ∙ ap (λ (m : ℕ). advance m (opened signal prn)) e ∙ week-passes
+    where
+      one-more : step (advance n (opened signal prn)) ≡ advance (suc n) (opened signal prn)
+      one-more = unfold advance in sym (times-last step n (opened signal prn))

@@ -175,7 +175,8 @@ unfolding times stage sumOf shift
 held-chip = refl
 
 module _ (prn : ℕ) where
-  chip-late : (w : ℕ) → 6187103999034 ≤ w → chipX2 (signalP prn) coursesP w ≡ 1
+  -- from where both are held
+  pub chip-late : (w : ℕ) → 6187103999034 ≤ w → chipX2 (signalP prn) coursesP w ≡ 1
   unfolding generatorAt standingAt
   chip-late w h =
       let a : 6187103998930 ≤ w = omega arith in
