@@ -5,10 +5,10 @@
 --     seeks-accepted   from wherever steps lead, a seek leads to every place of the week, and W is refused with 3
 --     chip-there       and the step from there gives the standards' chip
 -- Assumes nothing.
-use Prim.Native.Nat.{ℕ, suc, _≤_, _<_}
 use mathlib.Core.Bool.{true, false}
 use mathlib.Core.Path.{_≡_, refl, sym, ap, ap₂, subst, _∙_}
 use mathlib.Core.List.{[], _∷_}
+use Prim.Native.Nat.{ℕ, suc, _≤_, _<_}
 use native.Mathlib.Nat.{mod-eq-of-lt}
 use borrow.Author.Tests.{lt-ltb, le-ltb}
 use Rattle.registers.proofs.Repeat.{times-last}

@@ -137,11 +137,11 @@ pub fn step_g2(g: Generator) -> Generator
 // ---- P
 
 // The chips for which X1B, X2A and X2B stay at the last state of their last cycle, and X2A and X2B at that of their last cycle of the week.
-const HOLD_X1B: u32 = 343;
+pub const HOLD_X1B: u32 = 343;
 
-const HOLD_X2A: u32 = 37;
+pub const HOLD_X2A: u32 = 37;
 
-const HOLD_X2B: u32 = 380;
+pub const HOLD_X2B: u32 = 380;
 
 const WEEK_END_HOLD_X2A: u32 = 1_069;
 

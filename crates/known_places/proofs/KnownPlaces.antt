@@ -4,10 +4,10 @@
 --     known-places   it holds: of the stepped machine, and of what a seek from the opened channel replies
 -- Where the list names no PRN, the row is for every PRN.
 -- Assumes nothing.
-use Prim.Native.Nat.{ℕ, zero, suc, _+_, _-_, _*_, _/_, _%_, _^_, _<_}
 use mathlib.Core.Bool.{true}
-use mathlib.Core.Path.{_≡_, refl, sym, ap, ap₂, _∙_}
+use mathlib.Core.Path.{_≡_, refl, ap, ap₂, _∙_}
 use mathlib.Core.List.{List, [], _∷_}
+use Prim.Native.Nat.{ℕ, zero, suc, _+_, _-_, _*_, _/_, _%_, _^_, _<_}
 use native.Mathlib.Nat.{pow-suc}
 use native.Mathlib.Omega.{arith}
 use lib.Arith.{lt-one}
@@ -20,7 +20,6 @@ use Rattle.machine.specs.Generators.{fresh}
 use Rattle.machine.specs.Signals.{weekOf}
 use Rattle.machine.specs.Machine.{chips, chip, step, opened, advance, isSignal, isPrn}
 use Rattle.machine.specs.declared.Mode.the-variants.{Held}
-use Rattle.machine.specs.declared.Generator.{Generator}
 use Rattle.machine.specs.declared.Channel.{Channel}
 use Rattle.week.specs.Standing.{inPeriod, standingAt, generatorAt}
 use Rattle.week.proofs.LawOfTheWeek.{at-place, last-step}

@@ -1,31 +1,25 @@
 -- A seek makes at most 44 leaps, to whatever place; by signal, C/A 18, P 44, L2 CM 13, L2 CL 19, I5 and Q5 24.
 -- Assumes nothing.
-use mathlib.Core.Path.{_≡_, refl, sym, ap, ap₂, _∙_}
+use mathlib.Core.Path.{_≡_, subst⁻¹}
 use mathlib.Core.List.{List, [], _∷_}
-use Prim.Native.Nat.{ℕ, zero, suc, _+_, _-_, _%_, _≤_, _<_}
-use native.Mathlib.Nat.{mod-lt}
+use Prim.Native.Nat.{ℕ, zero, suc, _-_, _%_, _≤_, _<_}
 use native.Mathlib.Omega.{arith}
 use lib.Count.{ones}
 use lib.Dec.{lit<, lit≤}
 use lib.ListN.{getD}
-use Rattle.leaps.proofs.Ones.{ones-ca, ones-p, ones-four, ones-cm, ones-cl, ones-l5}
+use Rattle.leaps.proofs.Ones.{ones-ca, ones-four, ones-cm, ones-cl, ones-l5}
 use Rattle.machine.specs.Signals.{weekCA, weekL2, weekL5, weekOf}
-use Rattle.machine.specs.Machine.{advance, opened}
-use Rattle.machine.specs.declared.Channel.{Channel}
 use Rattle.week.specs.declared.Course.{Course}
-use Rattle.week.specs.Standing.{standingAt, generatorAt}
-use Rattle.week.specs.Week.{Courses, courses, noCourses, coursesOf, courseG, courseX1A, courseX1B, courseX2A, courseX2B, courseCM, courseCL, courseXA, courseXB, coursesL5, idle}
-use Rattle.week.proofs.LawOfTheWeek.{law-of-the-week}
-use Rattle.seeks.specs.Leaps.{phaseOnes, leapsTo}
+use Rattle.week.specs.Standing.{standingAt}
+use Rattle.week.specs.Week.{courses, noCourses, courseG, courseX1A, courseX1B, courseX2A, courseX2B, courseCM, courseCL, courseXA, courseXB, coursesL5, idle}
+use Rattle.seeks.specs.Leaps.{leapsTo}
+use Rattle.seeks.specs.Inner.{onesAt}
 use Rattle.seeks.proofs.Phases.{phase-lt}
+use Rattle.seeks.proofs.Landing.{leaps-are}
 
 -- the most leaps of each signal, in the order of the list
 abbrev pub mostLeaps : List ℕ
 mostLeaps = 18 ∷ 44 ∷ 13 ∷ 19 ∷ 24 ∷ 24 ∷ []
-
-abbrev counted : Courses → ℕ → ℕ → ℕ
-counted c w v =
-    ones (standingAt (c .first) w .phase) + ones (standingAt (c .second) w .phase) + ones (standingAt (c .third) v .phase) + ones (standingAt (c .fourth) v .phase)
 
 no-ones : (n : ℕ) → n < 1 → ones n ≡ 0
 unfolding ones
@@ -38,11 +32,11 @@ none-made week w = no-ones (standingAt (idle week) w .phase) (phase-lt (idle wee
 below : (c : Course) (w m : ℕ) → 0 < c .cycle → c .cycle ≤ m → standingAt c w .phase < m
 below c w m some h = omega (arith, phase-lt c w some)
 
-l5 : (w v : ℕ) → counted coursesL5 w v ≤ 24
+l5 : (w v : ℕ) → onesAt coursesL5 w v ≤ 24
 l5 w v =
     omega (arith, ones-l5 _ (below courseXA w 8191 (lit< tt) (lit≤ tt)), ones-l5 _ (phase-lt courseXB w (lit< tt)), none-made weekL5 v)
 
-few : (k w v : ℕ) → counted (getD courses k noCourses) w v ≤ getD mostLeaps k 0
+few : (k w v : ℕ) → onesAt (getD courses k noCourses) w v ≤ getD mostLeaps k 0
 few zero w v =
     omega (arith, ones-ca _ (phase-lt courseG w (lit< tt)), none-made weekCA v)
 few (suc zero) w v =
@@ -54,11 +48,8 @@ few (suc (suc (suc (suc (suc zero))))) w v = l5 w v
 few (suc (suc (suc (suc (suc (suc k)))))) w v = omega (arith, none-made 1 w, none-made 1 v)
 
 pub few-leaps : (signal prn place : ℕ) → leapsTo signal prn place ≤ getD mostLeaps (signal - 1) 0
-unfolding leapsTo generatorAt
 few-leaps signal prn place =
-    let here = law-of-the-week signal prn place in
-    let earlier = law-of-the-week signal prn (place - 37) in
-    rw (here, earlier) (few (signal - 1) (place % weekOf signal) ((place - 37) % weekOf signal))
+    subst⁻¹ (λ (n : ℕ). n ≤ getD mostLeaps (signal - 1) 0) (leaps-are signal prn place) (few (signal - 1) (place % weekOf signal) ((place - 37) % weekOf signal))
 
 most : (k : ℕ) → getD mostLeaps k 0 ≤ 44
 most zero = omega arith

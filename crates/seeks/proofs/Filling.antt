@@ -1,24 +1,22 @@
 -- Single steps of X2A and X2B that fill the delay line.
 -- Assumes nothing.
 use mathlib.Core.Path.{_≡_, refl, sym, ap, ap₂, subst⁻¹, _∙_}
-use mathlib.Core.Bool.{Bool}
 use Prim.Native.Nat.{ℕ, suc, _+_, _-_, _*_, _%_, _^_, _≤_, _<_}
 use native.Mathlib.Nat.{sub-self}
 use native.Mathlib.Numerals.{add-one}
 use native.Mathlib.Omega.{arith}
-use lib.Dec.{leb, lit<, lit≤}
+use lib.Dec.{lit<, lit≤}
 use Rattle.machine.specs.Generators.{stepGenerator}
 use Rattle.machine.specs.Signals.{weekP, signalP, x2a, x2b}
 use Rattle.machine.specs.Machine.{nextLine, opened, advance, inRange}
-use Rattle.machine.specs.Ranged.{RangedKind, RangedAs, Ranged}
+use Rattle.machine.specs.Ranged.{RangedKind, RangedAs}
 use Rattle.machine.specs.declared.Generator.{Generator}
-use Rattle.machine.specs.declared.Channel.{Channel}
 use Rattle.machine.proofs.Ranges.{ranged}
 use Rattle.machine.proofs.RangeLaw.{opened-in, advance-in}
 use Rattle.machine.proofs.Numbered.{fields-as}
 use Rattle.week.specs.Standing.{generatorAt}
 use Rattle.week.specs.Week.{chipX2, lineFrom, coursesP, courseX2A, courseX2B, channelAt}
-use Rattle.week.proofs.WeekEnd.{lastCycle, late, x2a-goes, x2b-goes}
+use Rattle.week.proofs.WeekEnd.{late, x2a-goes, x2b-goes}
 use Rattle.week.proofs.DelayLine.{line-lt, line-next}
 use Rattle.week.proofs.LawOfTheWeek.{at-place}
 use Rattle.seeks.specs.Inner.{Filled}

@@ -2,35 +2,33 @@
 --     counts-few     the count has room
 --     plain-landed   a signal with at most two generators
 --     p-landed       P
---     landed-is      by the law of the week it is the stepped machine, and the leaps are those of document 01's rule
+--     leaps-are      document 01's rule of leaps, by where the generators stand
+--     numbered       by the law of the week the channel is the stepped machine's, and the leaps are those of the rule
 -- Assumes nothing.
-use mathlib.Core.Path.{_≡_, refl, sym, ap, subst, _∙_}
-use mathlib.Core.Bool.{Bool, true}
-use Prim.Native.Nat.{ℕ, suc, _+_, _-_, _/_, _%_, _^_, _≤_, _<_}
-use native.Mathlib.Nat.{mod-one, div-eq-of-lt}
+use mathlib.Core.Path.{_≡_, sym, ap, ap₂, subst, _∙_}
+use Prim.Native.Nat.{ℕ, _+_, _-_, _/_, _%_, _^_, _≤_, _<_}
+use native.Mathlib.Nat.{mod-one, mod-eq-of-lt, div-eq-of-lt}
 use native.Mathlib.Omega.{arith}
 use lib.Count.{ones, ones-le}
 use lib.Dec.{lit<}
 use borrow.Author.Tests.{lt-ltb}
 use Rattle.registers.specs.Times.{times}
 use Rattle.machine.specs.Generators.{Kind, fresh}
-use Rattle.machine.specs.Signals.{Signal, weekP, weekOf, none, plain, signalP, signalOf, x1a, x1b, x2a, x2b}
-use Rattle.machine.specs.Machine.{advance, opened}
+use Rattle.machine.specs.Signals.{Signal, weekOf, none, plain, signalP, signalOf, x1a, x1b, x2a, x2b}
 use Rattle.machine.specs.declared.Mode.the-variants.{Running}
 use Rattle.machine.specs.declared.Generator.{Generator}
 use Rattle.machine.specs.declared.Channel.{Channel}
 use Rattle.week.specs.declared.Course.{Course}
-use Rattle.week.specs.declared.Standing.{Standing}
-use Rattle.seeks.specs.Leaps.{phaseOnes, leapsTo}
 use Rattle.week.specs.Standing.{inPeriod, standingAt, generatorAt}
-use Rattle.week.specs.Week.{Courses, chipX2, lineAt, lineFrom, idle, plainCourses, coursesP, coursesOf, courseX1A, courseX1B, courseX2A, courseX2B, channelAt}
+use Rattle.week.specs.Week.{Courses, chipX2, lineAt, lineFrom, idle, plainCourses, coursesP, coursesOf, courseX1A, courseX1B, courseX2A, courseX2B}
 use Rattle.week.proofs.Weeks.{no-line}
 use Rattle.week.proofs.DelayLine.{line-from}
-use Rattle.week.proofs.LawOfTheWeek.{at-place}
+use Rattle.week.proofs.LawOfTheWeek.{law-of-the-week, at-place}
+use Rattle.seeks.specs.Leaps.{phaseOnes, leapsTo}
 use Rattle.seeks.specs.declared.Brought.{Brought}
 use Rattle.seeks.specs.declared.Fill.{Fill}
 use Rattle.seeks.specs.declared.Landed.{Landed}
-use Rattle.seeks.specs.Inner.{brought, Filled, plainLanded, landed, landedAt}
+use Rattle.seeks.specs.Inner.{brought, Filled, plainLanded, onesAt, landed, landedAt}
 use Rattle.seeks.proofs.Phases.{phase-lt}
 
 pub counts-few : (k : Kind) (c : Course) (place count digits : ℕ) (r : Brought) → r ≡ brought k c place count → 0 < c .cycle → c .cycle ≤ 2 ^ digits
@@ -141,12 +139,17 @@ module _ (signal prn place : ℕ) where
 
 -- ---- any signal
 
-pub landed-is : (signal prn place : ℕ) → place < weekOf signal → landed (signalOf signal prn) (coursesOf signal) signal prn place ≡ landedAt signal prn place
+pub leaps-are : (signal prn place : ℕ) → leapsTo signal prn place ≡ onesAt (coursesOf signal) (place % weekOf signal) ((place - 37) % weekOf signal)
 unfolding leapsTo generatorAt
+leaps-are signal prn place = ap₂ phaseOnes (law-of-the-week signal prn place) (law-of-the-week signal prn (place - 37))
+
+landed-is : (signal prn place : ℕ) → place < weekOf signal → landed (signalOf signal prn) (coursesOf signal) signal prn place ≡ landedAt signal prn place
 landed-is signal prn place h =
-    let here = sym (at-place signal prn place h) in
-    let earlier = sym (at-place signal prn (place - 37) (omega arith)) in
-    λ j. record { channel = here j; leaps = phaseOnes (here j) (earlier j) }
+    let here : place % weekOf signal ≡ place = mod-eq-of-lt h in
+    let earlier : (place - 37) % weekOf signal ≡ place - 37 = mod-eq-of-lt (omega arith) in
+    let leaps : onesAt (coursesOf signal) place (place - 37) ≡ leapsTo signal prn place
+    = sym (leaps-are signal prn place ∙ ap₂ (onesAt (coursesOf signal)) here earlier) in
+    λ j. record { channel = sym (at-place signal prn place h) j; leaps = leaps j }
 
 -- by the signal's number
 pub numbered : (k signal prn place : ℕ) → signal ≡ k → place < weekOf signal → landed (signalOf k prn) (coursesOf k) signal prn place ≡ landedAt signal prn place

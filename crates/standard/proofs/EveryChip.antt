@@ -1,31 +1,29 @@
 -- DEMAND 2: each chip of each signal, PRN 1 to 37, at each place of the week is that of IS-GPS-200 or IS-GPS-705.
 --     every-chip   after any number n of steps from the opened channel, the machine's chip is the standards' chip at n modulo the week
 -- Assumes nothing.
-use mathlib.Core.Path.{_≡_, refl, sym, ap, ap₂, _∙_}
+use mathlib.Core.Path.{_≡_, refl, sym, ap, _∙_}
 use mathlib.Core.Logic.{⊎-elim}
-use mathlib.Core.Bool.{Bool, true}
-use mathlib.Core.List.{[], _∷_}
-use Prim.Native.Nat.{ℕ, zero, suc, _+_, _-_, _*_, _/_, _%_, _^_, _≤_, _<_}
+use mathlib.Core.Bool.{true}
+use Prim.Native.Nat.{ℕ, zero, suc, _+_, _-_, _/_, _%_, _^_, _≤_, _<_}
 use native.Mathlib.Nat.{mod-lt, mod-eq-of-lt}
 use native.Mathlib.Omega.{arith}
-use lib.Dec.{eqb, lit<}
+use lib.Dec.{lit<}
 use lib.ListN.{getD}
 use Rattle.registers.specs.Times.{times}
-use Rattle.registers.specs.Register.{stage, sumOf, shiftG1, shiftG2, shiftX1A, shiftX1B, shiftX2A, shiftX2B, shiftXA, shiftXB}
-use Rattle.registers.proofs.Below.{below, equal-at}
-use Rattle.starts.specs.Starts.{Listed, entryOf, startG1, startG2, startX1A, startX1B, startX2A, startX2B, startXA, stagesOf, startCM, startCL, startI5, startQ5, advancesI5, advancesQ5, advancedXB}
-use Rattle.machine.specs.Signals.{Signal, weekCA, weekP, weekL2, weekL5, weekOf, signals, noSignal, signalOf, signalCA, signalP, fromCM, fromCL, fromL5, chipCA, chipP}
+use Rattle.registers.specs.Register.{stage, sumOf, shiftG1, shiftG2}
+use Rattle.registers.proofs.Below.{equal-at}
+use Rattle.starts.specs.Starts.{Listed, entryOf, startG1, startG2, stagesOf, startCM, startCL, startI5, startQ5, advancesI5, advancesQ5, advancedXB}
+use Rattle.machine.specs.Signals.{weekCA, weekP, weekL2, weekL5, weekOf, signals, noSignal, signalOf, signalCA, signalP, fromCM, fromCL, fromL5}
 use Rattle.machine.specs.Machine.{advance, opened, chip, isSignal, isPrn}
-use Rattle.machine.specs.declared.Channel.{Channel}
 use Rattle.machine.proofs.Ranges.{signal-in, prn-in}
 use Rattle.machine.proofs.Numbered.{chip-is}
 use Rattle.week.specs.Standing.{standingAt, generatorAt}
-use Rattle.week.specs.Week.{chipX2, lineFrom, lineAt, coursesCA, coursesP, coursesCM, coursesCL, coursesL5, courses, noCourses, coursesOf, courseG, courseX1A, courseX1B, courseX2A, courseX2B, courseCM, courseCL, courseXA, courseXB, channelAt}
+use Rattle.week.specs.Week.{chipX2, lineAt, coursesCA, coursesP, coursesCM, coursesCL, coursesL5, courses, noCourses, coursesOf, courseG, courseX1A, courseCM, courseCL, courseXA, courseXB, channelAt}
 use Rattle.week.proofs.DelayLine.{recent, older}
 use Rattle.week.proofs.Weeks.{chip-late, week-of}
 use Rattle.week.proofs.Circle.{less-or}
 use Rattle.week.proofs.LawOfTheWeek.{law-of-the-week}
-use Rattle.standard.specs.Standard.{week, x2, xa, xb, codeCA, codeP, codeCM, codeCL, codeI5, codeQ5, codes, codeDelays, standard}
+use Rattle.standard.specs.Standard.{week, x2, xa, xb, codeCA, codeP, codeCM, codeCL, codes, standard}
 use Rattle.standard.proofs.Sequences.{delayed, advanced}
 use Rattle.standard.proofs.Phases.{phase-runs, x1b-phase, x2a-phase, x2b-phase}
 

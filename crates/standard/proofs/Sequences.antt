@@ -7,7 +7,7 @@ use mathlib.Core.Path.{_≡_, refl, sym, ap, ap₂, _∙_}
 use mathlib.Core.Bool.{Bool, _&&_}
 use mathlib.Core.List.{List, [], _∷_}
 use Prim.Native.Nat.{ℕ, zero, suc, _+_, _-_, _*_, _/_, _%_, _^_, _≤_, _<_}
-use native.Mathlib.Nat.{zero-add, add-suc, add-zero, add-comm, add-assoc, zero-mul, suc-mul, div-add-mod', mod-le}
+use native.Mathlib.Nat.{zero-mul, suc-mul, div-add-mod'}
 use native.Mathlib.Omega.{arith}
 use lib.Dec.{T, eqb, ltb, lit<, eqb→eq, ltb→lt}
 use lib.ListN.{getD}
@@ -15,13 +15,13 @@ use Rattle.registers.specs.Times.{times}
 use Rattle.registers.specs.Register.{stage, sumOf, shift, shiftG2, shiftXB}
 use Rattle.registers.specs.Row.{combine}
 use Rattle.registers.proofs.Repeat.{times-add}
-use Rattle.registers.proofs.Below.{both, below, at, equal-at}
+use Rattle.registers.proofs.Below.{both, below, at}
 use Rattle.registers.proofs.Linear.{Linear, after, columns, agree}
-use Rattle.registers.proofs.Shifts.{Shift, times-keeps, stage-lt, stage-linear, sumOf-linear}
+use Rattle.registers.proofs.Shifts.{times-keeps, stage-linear, sumOf-linear}
 use Rattle.registers.proofs.Shifts as shifts
 use Rattle.leaps.specs.Leaps.{leapIf, leaps}
 use Rattle.leaps.proofs.Grown.{grown, by-leaps}
-use Rattle.starts.specs.Starts.{Listed, entryOf, startG2, stagesCA, stagesOf, advancedXB}
+use Rattle.starts.specs.Starts.{startG2, stagesCA, advancedXB}
 use Rattle.standard.specs.Standard.{codeDelays}
 
 -- ---- round a period

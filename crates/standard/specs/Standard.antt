@@ -2,9 +2,9 @@
 -- Time counts the signal's own chips from the start of the week. It is a second definition beside the stepped machine's, and takes nothing from it: no
 -- generator, no step, no delay line. `proofs/EveryChip.antt` shows that the two agree at every time.
 -- Assumes nothing.
-use Prim.Native.Nat.{ℕ, _+_, _-_, _*_, _%_}
 use mathlib.Core.Bool.{cond}
 use mathlib.Core.List.{List, [], _∷_}
+use Prim.Native.Nat.{ℕ, _+_, _-_, _*_, _%_}
 use lib.Dec.{ltb}
 use lib.ListN.{getD}
 use Rattle.registers.specs.Times.{times}

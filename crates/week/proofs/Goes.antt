@@ -1,6 +1,6 @@
 -- What it takes for a generator to go by its course through the week, and that one that goes by its plan alone does.
 -- Assumes nothing.
-use mathlib.Core.Path.{_≡_, refl, sym, ap, _∙_}
+use mathlib.Core.Path.{_≡_, sym, ap, _∙_}
 use mathlib.Core.Bool.{Bool}
 use Prim.Native.Nat.{ℕ, suc, _%_, _<_}
 use native.Mathlib.Nat.{zero-mod}

@@ -2,19 +2,18 @@
 --     GoesBy   what has to hold of the signal
 --     gone     n steps on
 -- Assumes nothing.
-use mathlib.Core.Path.{_≡_, refl, sym, ap, ap₂, _∙_}
-use mathlib.Core.Bool.{Bool, false, cond}
-use Prim.Native.Nat.{ℕ, zero, suc, _+_, _-_, _*_, _/_, _%_, _^_, _<_}
+use mathlib.Core.Path.{_≡_, refl, sym, ap, _∙_}
+use mathlib.Core.Bool.{Bool, false}
+use Prim.Native.Nat.{ℕ, suc, _+_, _-_, _*_, _/_, _%_, _^_, _<_}
 use native.Mathlib.Nat.{zero-add, zero-div}
 use native.Mathlib.Numerals.{add-one}
 use native.Mathlib.Omega.{arith}
 use borrow.Author.Tests.{eq-eqb, ne-eqb}
 use Rattle.registers.specs.Times.{times}
-use Rattle.machine.specs.Generators.{upTo, fresh, stepGenerator}
+use Rattle.machine.specs.Generators.{upTo}
 use Rattle.machine.specs.Signals.{Signal, signalOf}
 use Rattle.machine.specs.Machine.{atWeekEnd, nextEpoch, stepAs, stepWith, step, advance, openedAs, opened}
 use Rattle.machine.specs.declared.Generator.{Generator}
-use Rattle.machine.specs.declared.Channel.{Channel}
 use Rattle.machine.proofs.Numbered.{step-is, opened-is}
 use Rattle.week.specs.Standing.{generatorAt}
 use Rattle.week.specs.Week.{Courses, chipX2, lineFrom, lineAt, channelAt}

@@ -6,7 +6,7 @@
 -- Assumes nothing.
 use mathlib.Core.Path.{_≡_, refl, sym, ap, _∙_}
 use Prim.Native.Nat.{ℕ, suc, _%_, _<_}
-use native.Mathlib.Nat.{mod-self, mod-eq-of-lt, mod-mod, mod-lt, zero-mod}
+use native.Mathlib.Nat.{mod-self, mod-eq-of-lt, mod-mod}
 use Rattle.registers.specs.Times.{times}
 use Rattle.registers.proofs.Repeat.{times-last}
 use Rattle.machine.specs.Signals.{signalOf, weekOf}

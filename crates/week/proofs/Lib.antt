@@ -1,4 +1,5 @@
 -- `LawOfTheWeek` is the law; the others lead up to it, in this order.
+pub mod Products
 pub mod Circle
 pub mod Stepping
 pub mod Periods

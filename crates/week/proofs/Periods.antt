@@ -2,18 +2,17 @@
 --     Plan          the facts of numbers that a kind has to meet: cycles of l chips, a run of e chips, a period of p chips
 --     period-next   one step on, from any place
 -- Assumes nothing.
-use mathlib.Core.Path.{_≡_, refl, sym, ap, ap₂, _∙_}
+use mathlib.Core.Path.{_≡_, sym, ap, ap₂, _∙_}
 use mathlib.Core.Logic.{⊎-elim}
-use mathlib.Core.Bool.{Bool, cond}
-use Prim.Native.Nat.{ℕ, zero, suc, _+_, _-_, _*_, _/_, _%_, _≤_, _<_}
+use mathlib.Core.Bool.{Bool}
+use Prim.Native.Nat.{ℕ, suc, _-_, _/_, _%_, _≤_, _<_}
 use native.Mathlib.Nat.{mod-lt, mod-eq-of-lt, mod-self, zero-mod, zero-div, le-antisymm}
 use native.Mathlib.Omega.{arith}
-use lib.Dec.{ltb}
 use borrow.Author.Tests.{lt-ltb, le-ltb}
 use Rattle.machine.specs.Generators.{Kind, stepGenerator}
 use Rattle.machine.specs.declared.Mode.the-variants.{Running, Held}
 use Rattle.machine.specs.declared.Generator.{Generator}
-use Rattle.week.specs.Standing.{on, inPeriod, withRegister}
+use Rattle.week.specs.Standing.{inPeriod, withRegister}
 use Rattle.week.proofs.Circle.{less-or, mod-next, mod-over, div-next, div-over, next-in}
 use Rattle.week.proofs.Stepping.{stand, step-shift, step-rise, step-held, step-free}
 

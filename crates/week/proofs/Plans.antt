@@ -3,19 +3,18 @@
 --     holding-plan   the same, but held at the last chip of the last cycle
 --     cut-plan       two cycles, the second cut short
 -- Assumes nothing.
-use mathlib.Core.Path.{_≡_, refl, sym, ap, ap₂, subst, _∙_}
+use mathlib.Core.Path.{_≡_, refl, sym, ap, ap₂, _∙_}
 use mathlib.Core.Bool.{Bool, true, false, cond}
-use Prim.Native.Nat.{ℕ, zero, suc, _+_, _-_, _*_, _/_, _%_, _≤_, _<_}
-use native.Mathlib.Nat.{suc-mul, one-mul, mod-self, mod-lt, mod-eq-of-lt, div-add-mod'}
+use Prim.Native.Nat.{ℕ, suc, _+_, _-_, _*_, _/_, _%_, _≤_, _<_}
+use native.Mathlib.Nat.{suc-mul, mod-self, mod-eq-of-lt, div-add-mod'}
 use native.Mathlib.Omega.{arith}
 use lib.Arith.{digits-div, digits-mod}
 use lib.Dec.{eqb}
-use borrow.Author.Tests.{eq-eqb, ne-eqb, eqb-true, eqb-false}
+use borrow.Author.Tests.{ne-eqb, eqb-true}
 use Rattle.machine.specs.Generators.{Kind, stepGenerator, heldAt}
 use Rattle.machine.specs.Signals.{steady, holding, cut}
 use Rattle.machine.specs.declared.Mode.{Mode}
 use Rattle.machine.specs.declared.Mode.the-variants.{Running, Held}
-use Rattle.machine.specs.declared.Generator.{Generator}
 use Rattle.week.proofs.Stepping.{stand, step-shift, step-round, held-there, held-not}
 use Rattle.week.proofs.Periods.{Plan, periodic, period-start, held-in}
 

@@ -6,22 +6,22 @@ use mathlib.Core.Path.{_≡_, refl, sym, ap, ap₂, _∙_}
 use mathlib.Core.Logic.{⊎-elim}
 use mathlib.Core.Bool.{Bool, true, false, cond, _&&_}
 use Prim.Native.Nat.{ℕ, zero, suc, _+_, _-_, _*_, _/_, _%_, _^_, _≤_, _<_}
-use native.Mathlib.Nat.{mod-lt, mod-one, le-antisymm, div-eq-of-lt}
+use native.Mathlib.Nat.{mod-lt, mod-one, div-eq-of-lt}
 use native.Mathlib.Omega.{arith}
 use lib.ListN.{getD}
-use lib.Dec.{ltb, leb, eqb, lit<, lit≤}
+use lib.Dec.{ltb, eqb, lit<, lit≤}
 use borrow.Author.Tests.{eq-eqb, ne-eqb, lt-ltb, le-ltb, le-leb, lt-leb, ltb-true}
 use Rattle.registers.specs.Times.{times}
 use Rattle.registers.specs.Register.{stage, sumOf, shift}
 use Rattle.starts.specs.Starts.{startCM, startCL, startI5, startQ5}
 use Rattle.machine.specs.Generators.{Kind, upTo}
 use Rattle.machine.specs.Signals.{Signal, weekCA, weekP, weekL2, weekL5, none, plain, g1, g2, x1a, x1b, x2a, x2b, cm, cl, xa, xb, signalCA, signalP, fromCM, fromCL, fromL5, signals, noSignal, signalOf}
-use Rattle.machine.specs.Machine.{returned, nextEpoch, atWeekEnd}
+use Rattle.machine.specs.Machine.{returned, nextEpoch}
 use Rattle.machine.specs.declared.Generator.{Generator}
 use Rattle.machine.specs.declared.Channel.{Channel}
 use Rattle.week.specs.declared.Course.{Course}
 use Rattle.week.specs.Standing.{standingAt, generatorAt}
-use Rattle.week.specs.Week.{Courses, chipX2, lineFrom, lineAt, idle, plainCourses, courseG, courseX1A, courseX1B, courseX2A, courseX2B, courseCM, courseCL, courseXA, courseXB, coursesCA, coursesP, coursesCM, coursesCL, coursesL5, courses, noCourses, coursesOf}
+use Rattle.week.specs.Week.{Courses, chipX2, lineFrom, lineAt, idle, plainCourses, courseG, courseX1A, courseCM, courseCL, courseXA, courseXB, coursesCA, coursesP, coursesCM, coursesCL, coursesL5, courses, noCourses, coursesOf}
 use Rattle.week.proofs.Circle.{less-or}
 use Rattle.week.proofs.Stepping.{both-pass, one-fails}
 use Rattle.week.proofs.Periods.{running-in}

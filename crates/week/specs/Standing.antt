@@ -1,7 +1,7 @@
 -- Where a generator stands, by division and remainder.
 -- Assumes nothing.
-use Prim.Native.Nat.{ℕ, _-_, _/_, _%_}
 use mathlib.Core.Bool.{cond}
+use Prim.Native.Nat.{ℕ, _-_, _/_, _%_}
 use lib.Dec.{ltb}
 use Rattle.registers.specs.Times.{times}
 use Rattle.machine.specs.Generators.{Kind}

@@ -1,7 +1,7 @@
 -- The channel at each place of the week, field by field.
 -- Assumes nothing.
-use Prim.Native.Nat.{ℕ, zero, suc, _+_, _-_, _*_, _/_, _%_, _^_}
 use mathlib.Core.List.{List, [], _∷_}
+use Prim.Native.Nat.{ℕ, zero, suc, _+_, _-_, _*_, _/_, _%_, _^_}
 use lib.ListN.{getD}
 use Rattle.registers.specs.Register.{stage}
 use Rattle.machine.specs.Signals.{Signal, weekCA, weekP, weekL2, weekL5}
@@ -57,20 +57,25 @@ idle week = unheld week 1 1
 abbrev pub plainCourses : ℕ → Course → Course → Courses
 plainCourses week first second = record { first = first; second = second; third = idle week; fourth = idle week; epochChips = week }
 
+-- P's: held at the last chip of its last cycle, with so many chips still to repeat
+abbrev pub held : ℕ → ℕ → ℕ → ℕ → Course
+held stop cycle cycles chips =
+    record { cycle = cycle; runs = cycles * cycle - 1; period = cycles * cycle + chips; stop = stop; week = weekP }
+
 abbrev pub courseG : Course
 courseG = unheld weekCA 1023 1023
 
 abbrev pub courseX1A : Course
-courseX1A = unheld weekP 4092 15345000
+courseX1A = unheld weekP 4092 (3750 * 4092)
 
 abbrev pub courseX1B : Course
-courseX1B = record { cycle = 4093; runs = 15344656; period = 15345000; stop = weekP; week = weekP }
+courseX1B = held weekP 4093 3749 343
 
 abbrev pub courseX2A : Course
-courseX2A = record { cycle = 4092; runs = 15344999; period = 15345037; stop = 6187103998930; week = weekP }
+courseX2A = held 6187103998930 4092 3750 37
 
 abbrev pub courseX2B : Course
-courseX2B = record { cycle = 4093; runs = 15344656; period = 15345037; stop = 6187103999034; week = weekP }
+courseX2B = held 6187103999034 4093 3749 380
 
 abbrev pub courseCM : Course
 courseCM = unheld weekL2 10230 10230
@@ -79,10 +84,10 @@ abbrev pub courseCL : Course
 courseCL = unheld weekL2 767250 767250
 
 abbrev pub courseXA : Course
-courseXA = unheld weekL5 8190 10230
+courseXA = unheld weekL5 8190 (8190 + 2040)
 
 abbrev pub courseXB : Course
-courseXB = unheld weekL5 8191 10230
+courseXB = unheld weekL5 8191 (8191 + 2039)
 
 abbrev pub coursesCA : Courses
 coursesCA = plainCourses weekCA courseG courseG

@@ -1,38 +1,31 @@
-use Rattle.engine.specs.Replies.{seekReply}
-use Rattle.machine.proofs.Ranges.{ranged}
-use Rattle.machine.specs.Signals.{weekOf}
-use Rattle.machine.specs.Machine.{inRange}
-use borrow.Author.Tests.{not-true, not-false, lt-ltb, le-ltb}
-use Prim.Native.Nat.{ℕ, _≤_, _<_}
+-- `engine::seek` meets its contract.
+-- Assumes nothing.
 use mathlib.Core.Bool.{true, false}
 use mathlib.Core.Path.{_≡_, sym, _∙_, subst}
+use Prim.Native.Nat.{ℕ, _≤_, _<_}
+use borrow.Author.Tests.{not-true, not-false, lt-ltb, le-ltb}
 use borrow.Author.Needs.{needs}
+use Rattle.machine.specs.Signals.{weekOf}
+use Rattle.machine.specs.Machine.{inRange}
+use Rattle.machine.proofs.Ranges.{ranged}
+use Rattle.engine.specs.Replies.{seekReply}
 use Rattle.engine.proofs.seek.Statement.{statement}
 use Rattle.engine.proofs.seek.Tie as tie
-use Rattle.engine.proofs.seek.Reads as reads
-use Rattle.engine.proofs.seek.Lts as lts
-use Rattle.ranges.proofs.in_range.Reads as in-range-reads
-use Rattle.ranges.proofs.week_of.Reads as week-of-reads
-use Rattle.seeks.proofs.land.Reads as land-reads
 
--- src/lib.rt:124:9
 in-range-requires : tie.Need-in-range-requires
 in-range-requires c κs = search needs
 
--- src/lib.rt:125:9
 returns : tie.Need-returns
 unfolding seekReply
 returns c =
     let no : inRange (c .before .before .args .ch) ≡ false = sym (c .before .in-range .ensures) ∙ not-true _ (c .if1 .taken) in
     simp no
 
--- src/lib.rt:127:8
 week-of-requires : tie.Need-week-of-requires
 week-of-requires c κs =
     let r = ranged (c .before .before .args .ch) (sym (c .before .in-range .ensures) ∙ not-false _ (c .if1 .left)) in
     (r .signal-first, r .signal-last)
 
--- src/lib.rt:128:9
 returns-2 : tie.Need-returns-2
 unfolding seekReply
 returns-2 c =
@@ -41,14 +34,12 @@ returns-2 c =
     let past : weekOf (start .args .ch .signal) ≤ start .args .place = subst (λ (w : ℕ). w ≤ start .args .place) (c .before .week-of .ensures) (c .if2 .taken) in
     simp (yes, le-ltb (start .args .place) (weekOf (start .args .ch .signal)) past)
 
--- src/lib.rt:130:9
 land-requires : tie.Need-land-requires
 land-requires c κs =
     let start = c .before .before .before .before in
     let r = ranged (start .args .ch) (sym (c .before .before .before .in-range .ensures) ∙ not-false _ (c .before .before .if1 .left)) in
     (r .signal-first, (r .signal-last, (r .prn-in, subst (λ (w : ℕ). start .args .place < w) (c .before .week-of .ensures) (c .if2 .left))))
 
--- src/lib.rt:121:1
 returns-3 : tie.Need-returns-3
 unfolding seekReply
 returns-3 c =

@@ -1,16 +1,13 @@
-use Rattle.seeks.proofs.Filling.{third-in, fourth-in, delay-in, filled-first, filled-next}
-use Rattle.seeks.specs.Inner.{Filled}
-use native.Mathlib.Omega.{arith}
-use Prim.Native.Nat.{ℕ, suc, _-_, _^_, _≤_, _<_}
+-- `seeks::fill_line` meets its contract.
+-- Assumes nothing.
 use mathlib.Core.Path.{_≡_, subst}
+use Prim.Native.Nat.{ℕ, _-_, _≤_}
+use native.Mathlib.Omega.{arith}
 use borrow.Author.Needs.{needs}
+use Rattle.seeks.specs.Inner.{Filled}
+use Rattle.seeks.proofs.Filling.{third-in, fourth-in, delay-in, filled-first, filled-next}
 use Rattle.seeks.proofs.fill_line.Statement.{statement}
 use Rattle.seeks.proofs.fill_line.Tie as tie
-use Rattle.seeks.proofs.fill_line.Reads as reads
-use Rattle.seeks.proofs.fill_line.Lts as lts
-use Rattle.generators.proofs.step_x2a.Reads as step-x2a-reads
-use Rattle.generators.proofs.step_x2b.Reads as step-x2b-reads
-use Rattle.steps.proofs.next_line.Reads as next-line-reads
 
 abbrev Inv-loop : tie.InvT-loop
 Inv-loop from place x2a₀ x2b₀ line₀ at₀ x2a x2b line at =
@@ -19,43 +16,35 @@ Inv-loop from place x2a₀ x2b₀ line₀ at₀ x2a x2b line at =
 abbrev μ-loop : tie.MeasureT-loop
 μ-loop from place x2a₀ x2b₀ line₀ at₀ x2a x2b line at = place - at
 
--- src/lib.rt:246:20
 sub-line : tie.Need-sub-line Inv-loop μ-loop
 sub-line c = search needs
 
--- src/lib.rt:248:5
 loop-holds : tie.Need-loop-holds Inv-loop μ-loop
 loop-holds c =
     (omega arith, c .pre .0, filled-first (c .args .from) (c .args .third) (c .args .fourth) (c .pre .1 .1 .0) (c .pre .1 .1 .1))
 
--- src/lib.rt:249:9
 add-at : tie.Need-add-at Inv-loop μ-loop
 add-at c = omega (arith, c .before .before .pre .1 .0)
 
--- src/lib.rt:251:9
 next-line-requires : tie.Need-next-line-requires Inv-loop μ-loop
 next-line-requires c κs =
     let l = c .before .loop in delay-in (c .before .before .args .from) (l .at) (l .x2a) (l .x2b) (l .line) (l .inv .2)
 
--- src/lib.rt:252:9
 step-x2a-requires : tie.Need-step-x2a-requires Inv-loop μ-loop
 step-x2a-requires c κs =
     let l = c .before .before .loop in
     let a = c .before .before .before .args in
     third-in (a .from) (l .at) (l .x2a) (l .x2b) (l .line) (omega (arith, c .before .before .before .pre .1 .0)) (l .inv .2)
 
--- src/lib.rt:253:9
 step-x2b-requires : tie.Need-step-x2b-requires Inv-loop μ-loop
 step-x2b-requires c κs =
     let l = c .before .before .before .loop in
     let a = c .before .before .before .before .args in
     fourth-in (a .from) (l .at) (l .x2a) (l .x2b) (l .line) (omega (arith, c .before .before .before .before .pre .1 .0)) (l .inv .2)
 
--- src/lib.rt:248:5
 loop-less : tie.Need-loop-less Inv-loop μ-loop
 loop-less c = omega arith
 
--- src/lib.rt:248:5
 loop-again : tie.Need-loop-again Inv-loop μ-loop
 loop-again c =
     let l = c .before .before .before .before .loop in
@@ -67,7 +56,6 @@ loop-again c =
           (c .before .step-x2a .ensures) (c .step-x2b .ensures) (c .before .before .next-line .ensures),
     )
 
--- src/lib.rt:237:1
 returns : tie.Need-returns Inv-loop μ-loop
 returns c =
     let l = c .before .loop in

@@ -1,11 +1,11 @@
 -- `seeks::land` meets its contract.
 -- Assumes nothing.
-use mathlib.Core.Path.{_≡_, _∙_, ap, subst⁻¹}
+use mathlib.Core.Path.{_∙_, ap, subst⁻¹}
 use Prim.Native.Nat.{ℕ, _<_, _^_}
 use borrow.Author.Needs.{needs}
 use Rattle.starts.proofs.Ranges.{start-cm-in, start-cl-in, start-i5-in, start-q5-in}
-use Rattle.machine.proofs.Numbered.{is-sixth}
 use Rattle.machine.specs.Signals.{fromCM, fromCL, fromL5}
+use Rattle.machine.proofs.Numbered.{is-sixth}
 use Rattle.week.specs.Week.{coursesCM, coursesCL, coursesL5}
 use Rattle.seeks.specs.Inner.{landed}
 use Rattle.seeks.proofs.Landing.{numbered, in-week}

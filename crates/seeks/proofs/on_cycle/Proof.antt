@@ -1,28 +1,23 @@
+-- `seeks::on_cycle` meets its contract.
+-- Assumes nothing.
 use native.Mathlib.Omega.{arith}
 use native.Mathlib.Nat.{mod-le, div-le-self}
 use borrow.Author.Needs.{needs}
 use Rattle.seeks.proofs.on_cycle.Statement.{statement}
 use Rattle.seeks.proofs.on_cycle.Tie as tie
-use Rattle.seeks.proofs.on_cycle.Reads as reads
-use Rattle.seeks.proofs.on_cycle.Lts as lts
 
--- src/lib.rt:36:17
 rem-t4 : tie.Need-rem-t4
 rem-t4 c = search needs
 
--- src/lib.rt:36:16
 cast-t5 : tie.Need-cast-t5
 cast-t5 c = omega (arith, mod-le (c .args .n) (c .args .cycle), c .pre .1)
 
--- src/lib.rt:37:18
 div-t6 : tie.Need-div-t6
 div-t6 c = search needs
 
--- src/lib.rt:37:17
 cast-t7 : tie.Need-cast-t7
 cast-t7 c = omega (arith, div-le-self (c .args .n) (c .args .cycle), c .pre .1)
 
--- src/lib.rt:30:1
 returns : tie.Need-returns
 returns c = search needs
 

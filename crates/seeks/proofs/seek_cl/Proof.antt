@@ -1,6 +1,6 @@
 -- `seeks::seek_cl` meets its contract.
 -- Assumes nothing.
-use mathlib.Core.Path.{_≡_, refl, ap, _∙_, subst⁻¹}
+use mathlib.Core.Path.{refl, ap, _∙_, subst⁻¹}
 use lib.Dec.{lit<, lit≤}
 use borrow.Author.Needs.{needs}
 use Rattle.machine.specs.Signals.{cl}
