@@ -5,7 +5,7 @@
 # The main job is the line program: lines of signal, PRN, place and count in, chips out.
 run:
 	@echo 'The line program is not built yet: so far the repository has the stepped machine of all six'
-	@echo 'signals and the calls open and step, with proofs. "make test" checks them all.'
+	@echo 'signals and the calls open, seek and step, with proofs. "make test" checks them all.'
 
 # From nothing: every proof, every wrong answer that has to be refused, every program.
 # The last line is rt's verdict, "N passed, 0 failed".

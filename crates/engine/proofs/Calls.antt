@@ -3,24 +3,30 @@
 --     steps-accepted   a channel that open gives is stepped for ever, and the n-th step gives the machine's chip at n
 --     seek-forgets     of the old channel only signal and PRN matter
 --     seeks-accepted   from wherever steps lead, a seek leads to every place of the week, and W is refused with 3
---     chip-there       and the step from there gives the standards' chip
+--     leaps-few        no seek tells more than 44 leaps
+--     chip-there       the step from a place sought gives the standards' chip there
 -- Assumes nothing.
 use mathlib.Core.Bool.{true, false}
 use mathlib.Core.Path.{_≡_, refl, sym, ap, ap₂, subst, _∙_}
-use mathlib.Core.List.{[], _∷_}
+use mathlib.Core.List.{List, [], _∷_}
 use Prim.Native.Nat.{ℕ, suc, _≤_, _<_}
 use native.Mathlib.Nat.{mod-eq-of-lt}
+use native.Mathlib.Omega.{arith}
+use lib.Dec.{ltb}
+use lib.ListN.{length, getD}
 use borrow.Author.Tests.{lt-ltb, le-ltb}
 use Rattle.registers.proofs.Repeat.{times-last}
 use Rattle.machine.specs.Signals.{weekOf}
 use Rattle.machine.specs.Machine.{opened, step, advance, chip, inRange, isSignal, isPrn}
 use Rattle.machine.specs.declared.Channel.{Channel}
+use Rattle.machine.proofs.Tests.{chosen}
 use Rattle.machine.proofs.Ranges.{signal-in, prn-in}
 use Rattle.machine.proofs.RangeLaw.{opened-in, advance-in}
 use Rattle.week.proofs.LawOfTheWeek.{law-of-the-week}
 use Rattle.standard.specs.Standard.{standard}
 use Rattle.standard.proofs.EveryChip.{every-chip}
 use Rattle.seeks.specs.Leaps.{leapsTo}
+use Rattle.seeks.proofs.FewLeaps.{at-most-44}
 use Rattle.engine.specs.Replies.{refusal, openReply, Reply, refusedWith, soughtWith, seekReply, steppedWith, stepReply}
 
 pub signal-257 : (prn : ℕ) → openReply 257 prn ≡ refusal 1
@@ -79,6 +85,20 @@ module _ (ch : Channel) (place : ℕ) where
   pub seek-out-of-range : inRange ch ≡ false → seekReply ch place ≡ refusedWith 4 ch
   unfolding seekReply
   seek-out-of-range e = simp e
+
+pub leaps-few : (ch : Channel) (place n : ℕ) → seekReply ch place .leaps ≡ n ∷ [] → n ≤ 44
+unfolding seekReply
+leaps-few ch place n =
+    let told : Reply → Type 0 = λ r. r .leaps ≡ n ∷ [] → n ≤ 44 in
+    chosen told (inRange ch)
+    (λ t.
+    chosen told (ltb place (weekOf (ch .signal)))
+    (λ u e. subst (λ (m : ℕ). m ≤ 44) (ap (λ (l : List ℕ). getD l 0 0) e) (at-most-44 (ch .signal) (ch .prn) place))
+    (λ u e. absurd (none-told e)))
+    (λ t e. absurd (none-told e))
+  where
+    none-told : [] ≡ n ∷ [] → ⊥
+    none-told e = let lengths : length {A = ℕ} [] ≡ length (n ∷ []) = ap length e in omega (arith, lengths)
 
 pub seek-forgets : (ch old : Channel) (place : ℕ) → inRange ch ≡ true → inRange old ≡ true → ch .signal ≡ old .signal → ch .prn ≡ old .prn
     → place < weekOf (ch .signal) → seekReply ch place ≡ seekReply old place

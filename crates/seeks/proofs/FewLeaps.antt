@@ -11,7 +11,8 @@ use Rattle.leaps.proofs.Ones.{ones-ca, ones-four, ones-cm, ones-cl, ones-l5}
 use Rattle.machine.specs.Signals.{weekCA, weekL2, weekL5, weekOf}
 use Rattle.week.specs.declared.Course.{Course}
 use Rattle.week.specs.Standing.{standingAt}
-use Rattle.week.specs.Week.{courses, noCourses, courseG, courseX1A, courseX1B, courseX2A, courseX2B, courseCM, courseCL, courseXA, courseXB, coursesL5, idle}
+use Rattle.week.specs.Week.{courses, noCourses, courseG, courseX1A, courseX1B, courseX2A, courseX2B, courseCM, courseCL, courseXA, courseXB}
+use Rattle.week.specs.Week.{coursesL5, idle}
 use Rattle.seeks.specs.Leaps.{leapsTo}
 use Rattle.seeks.specs.Inner.{onesAt}
 use Rattle.seeks.proofs.Phases.{phase-lt}

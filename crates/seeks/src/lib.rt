@@ -24,6 +24,9 @@ const EPOCH_P: u64 = 15_345_000;
 // The place where the week's last X1A cycle begins.
 const LAST_CYCLE: u64 = 6_187_103_995_908;
 
+// The bits of the delay line, and so the single steps that fill it.
+const LINE_BITS: u64 = 37;
+
 // ---- where a generator stands
 
 // n chips after its start, in a mode.
@@ -227,10 +230,10 @@ pub struct Fill {
 fn filled_from(place: u64) -> u64
     ensures { λ r. ⌜ r ≡ place - 37 ⌝ }
 {
-    if place < 37 {
+    if place < LINE_BITS {
         return 0;
     }
-    place - 37
+    place - LINE_BITS
 }
 
 // The three at a place, by single steps of X2A and X2B, which are at place `from` as they come.
