@@ -1,5 +1,6 @@
--- The delay line forgets: as many steps as it has bits leave nothing of what it held before.
---     line-from     the line at a place, filled from as many places before as it has bits (from place 0 if there are fewer), is the machine's
+-- The delay line.
+--     forgets       as many steps as it has bits leave nothing of what it held before
+--     line-from     so the line at a place, filled from as many places before as it has bits (from place 0 if there are fewer), is the machine's
 --     recent        its digit k is the chip taken in k + 1 steps ago
 --     older         or, if there were fewer steps, a digit of the line at the start
 -- Assumes nothing.
@@ -50,7 +51,7 @@ module _ (bits : ℕ) (x : ℕ → ℕ) where
       regroup p v b = omega arith
 
   -- whatever it held before
-  forgets : (s c d : ℕ) → c < 2 ^ bits → d < 2 ^ bits → lineFrom bits x s bits c ≡ lineFrom bits x s bits d
+  pub forgets : (s c d : ℕ) → c < 2 ^ bits → d < 2 ^ bits → lineFrom bits x s bits c ≡ lineFrom bits x s bits d
   forgets s c d hc hd = filled c hc ∙ sym (filled d hd)
     where
       filled : (line : ℕ) → line < 2 ^ bits → lineFrom bits x s bits line ≡ digits s bits % 2 ^ bits
