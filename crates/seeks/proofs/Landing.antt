@@ -21,7 +21,7 @@ use Rattle.machine.specs.declared.Channel.{Channel}
 use Rattle.week.specs.declared.Course.{Course}
 use Rattle.week.specs.Standing.{inPeriod, standingAt, generatorAt}
 use Rattle.week.specs.Week.{Courses, chipX2, lineAt, lineFrom, idle, plainCourses, coursesP, coursesOf, courseX1A, courseX1B, courseX2A, courseX2B}
-use Rattle.week.proofs.Weeks.{no-line}
+use Rattle.week.proofs.SignalWeeks.{no-line}
 use Rattle.week.proofs.DelayLine.{line-from}
 use Rattle.week.proofs.LawOfTheWeek.{law-of-the-week, at-place}
 use Rattle.seeks.specs.Leaps.{phaseOnes, leapsTo}

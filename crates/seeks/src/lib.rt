@@ -94,6 +94,9 @@ fn placed(at: Standing, leapt: Leapt) -> Brought
     }
 }
 
+// Each generator at a place, from its start: its table of leaps is named in one call, and so at most once in a seek. A start that depends on the PRN is
+// handed in.
+
 fn seek_g1(place: u64, count: u32) -> Brought
     requires { ⌜ Asked weekCA place count ⌝ }
     ensures { λ r. ⌜ r ≡ brought g1 courseG place count ⌝ }

@@ -17,7 +17,7 @@ use Rattle.week.specs.Standing.{standingAt, generatorAt}
 use Rattle.week.specs.Week.{chipX2, lineAt, coursesCA, coursesP, coursesCM, coursesCL, coursesL5, courses, noCourses, courseG, courseX1A, courseCM}
 use Rattle.week.specs.Week.{courseCL, courseXA, courseXB, channelAt}
 use Rattle.week.proofs.DelayLine.{recent, older}
-use Rattle.week.proofs.Weeks.{chip-late}
+use Rattle.week.proofs.SignalWeeks.{chip-late}
 use Rattle.week.proofs.Circle.{less-or}
 use Rattle.standard.specs.Standard.{week, x2, xa, xb, codeCA, codeP, codeCM, codeCL, codes}
 use Rattle.standard.proofs.Sequences.{delayed, advanced}

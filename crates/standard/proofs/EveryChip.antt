@@ -13,7 +13,7 @@ use Rattle.machine.specs.Machine.{advance, opened, chip, isSignal, isPrn}
 use Rattle.machine.proofs.Ranges.{signal-in, prn-in}
 use Rattle.machine.proofs.Numbered.{chip-is}
 use Rattle.week.specs.Week.{coursesOf, channelAt}
-use Rattle.week.proofs.Weeks.{week-of}
+use Rattle.week.proofs.SignalWeeks.{week-of}
 use Rattle.week.proofs.LawOfTheWeek.{law-of-the-week}
 use Rattle.standard.specs.Standard.{standard}
 use Rattle.standard.proofs.ChipBySignal.{in-order}

@@ -14,8 +14,8 @@ use Rattle.machine.specs.Machine.{step, advance, opened}
 use Rattle.machine.specs.declared.Channel.{Channel}
 use Rattle.machine.proofs.Numbered.{week-is}
 use Rattle.week.specs.Week.{coursesOf, channelAt}
-use Rattle.week.proofs.Going.{gone}
-use Rattle.week.proofs.Weeks.{week-of}
+use Rattle.week.proofs.ChannelWeek.{gone}
+use Rattle.week.proofs.SignalWeeks.{week-of}
 
 module _ (signal prn : ℕ) where
   -- the channel at place w

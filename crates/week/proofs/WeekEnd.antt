@@ -18,7 +18,7 @@ use Rattle.week.proofs.Circle.{less-or, mod-next, div-next}
 use Rattle.week.proofs.Stepping.{stand, at-start, step-shift, step-held, step-free}
 use Rattle.week.proofs.Periods.{Plan, periodic, running-in, period-start, period-next}
 use Rattle.week.proofs.Plans.{holding-plan}
-use Rattle.week.proofs.Goes.{Goes, in-period}
+use Rattle.week.proofs.GeneratorWeek.{Goes, in-period}
 
 -- the place where the week's last X1A cycle begins
 abbrev pub lastCycle : ℕ

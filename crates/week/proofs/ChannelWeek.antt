@@ -18,7 +18,7 @@ use Rattle.machine.proofs.Numbered.{step-is, opened-is}
 use Rattle.week.specs.Standing.{generatorAt}
 use Rattle.week.specs.Week.{Courses, chipX2, lineFrom, lineAt, channelAt}
 use Rattle.week.proofs.Circle.{around}
-use Rattle.week.proofs.Goes.{Goes}
+use Rattle.week.proofs.GeneratorWeek.{Goes}
 
 -- ---- the place
 

@@ -28,10 +28,10 @@ use Rattle.week.proofs.Circle.{less-or}
 use Rattle.week.proofs.Stepping.{both-pass, one-fails}
 use Rattle.week.proofs.Periods.{running-in}
 use Rattle.week.proofs.Plans.{steady-plan, holding-plan, cut-plan}
-use Rattle.week.proofs.Goes.{Goes, in-period, goes}
+use Rattle.week.proofs.GeneratorWeek.{Goes, in-period, goes}
 use Rattle.week.proofs.WeekEnd.{lastCycle, late, x2a-goes, x2b-goes}
 use Rattle.week.proofs.DelayLine.{line-from}
-use Rattle.week.proofs.Going.{firstAt, endAt, GoesBy}
+use Rattle.week.proofs.ChannelWeek.{firstAt, endAt, GoesBy}
 
 -- ---- signals with no epoch and no delay line
 
