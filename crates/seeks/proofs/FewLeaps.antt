@@ -1,10 +1,9 @@
 -- A seek makes at most 44 leaps, to whatever place; by signal, C/A 18, P 44, L2 CM 13, L2 CL 19, I5 and Q5 24.
 -- Assumes nothing.
-use mathlib.Core.Path.{_≡_, subst⁻¹}
+use mathlib.Core.Path.{subst⁻¹}
 use mathlib.Core.List.{List, [], _∷_}
 use Prim.Native.Nat.{ℕ, zero, suc, _-_, _%_, _≤_, _<_}
 use native.Mathlib.Omega.{arith}
-use lib.Count.{ones}
 use lib.Dec.{lit<, lit≤}
 use lib.ListN.{getD}
 use Rattle.leaps.proofs.Ones.{ones-ca, ones-four, ones-cm, ones-cl, ones-l5}
@@ -12,22 +11,15 @@ use Rattle.machine.specs.Signals.{weekCA, weekL2, weekL5, weekOf}
 use Rattle.week.specs.declared.Course.{Course}
 use Rattle.week.specs.Standing.{standingAt}
 use Rattle.week.specs.Week.{courses, noCourses, courseG, courseX1A, courseX1B, courseX2A, courseX2B, courseCM, courseCL, courseXA, courseXB}
-use Rattle.week.specs.Week.{coursesL5, idle}
+use Rattle.week.specs.Week.{coursesL5}
 use Rattle.seeks.specs.Leaps.{leapsTo}
 use Rattle.seeks.specs.Inner.{onesAt}
-use Rattle.seeks.proofs.Phases.{phase-lt}
+use Rattle.seeks.proofs.Phases.{phase-lt, none-made}
 use Rattle.seeks.proofs.Landing.{leaps-are}
 
 -- the most leaps of each signal, in the order of the list
 abbrev pub mostLeaps : List ℕ
 mostLeaps = 18 ∷ 44 ∷ 13 ∷ 19 ∷ 24 ∷ 24 ∷ []
-
-no-ones : (n : ℕ) → n < 1 → ones n ≡ 0
-unfolding ones
-no-ones n h = let e : n ≡ 0 = omega arith in rw e
-
-none-made : (week w : ℕ) → ones (standingAt (idle week) w .phase) ≡ 0
-none-made week w = no-ones (standingAt (idle week) w .phase) (phase-lt (idle week) w (lit< tt))
 
 -- the phases of P and L5 are below the longer of two cycles
 below : (c : Course) (w m : ℕ) → 0 < c .cycle → c .cycle ≤ m → standingAt c w .phase < m

@@ -29,7 +29,7 @@ use Rattle.seeks.specs.declared.Brought.{Brought}
 use Rattle.seeks.specs.declared.Fill.{Fill}
 use Rattle.seeks.specs.declared.Landed.{Landed}
 use Rattle.seeks.specs.Inner.{brought, Filled, plainLanded, onesAt, landed, landedAt}
-use Rattle.seeks.proofs.Phases.{phase-lt}
+use Rattle.seeks.proofs.Phases.{phase-lt, none-made}
 
 pub counts-few : (k : Kind) (c : Course) (place count digits : ℕ) (r : Brought) → r ≡ brought k c place count → 0 < c .cycle → c .cycle ≤ 2 ^ digits
     → r .count ≤ count + digits
@@ -47,10 +47,6 @@ pub lacking-at : (week w : ℕ) → w < week → generatorAt none (idle week) w 
 unfolding generatorAt times
 lacking-at week w h = rw (idle-at week w h)
 
-pub no-ones : (week w : ℕ) → w < week → ones (standingAt (idle week) w .phase) ≡ 0
-unfolding ones
-no-ones week w h = rw (idle-at week w h)
-
 module _ (week : ℕ) (first second : Kind) (c d : Course) (chip : Channel → ℕ) (signal prn place : ℕ) (h : place < week) where
   abbrev s : Signal
   s = plain week first second chip
@@ -63,10 +59,9 @@ module _ (week : ℕ) (first second : Kind) (c d : Course) (chip : Channel → �
       → plainLanded signal prn place f g count ≡ landed s cs signal prn place
   unfolding lineAt
   plain-landed f g count ef eg ec =
-      let earlier : place - 37 < week = omega arith in
       let leaps : count ≡ ones (standingAt c place .phase) + ones (standingAt d place .phase)
       + ones (standingAt (idle week) (place - 37) .phase) + ones (standingAt (idle week) (place - 37) .phase)
-      = omega (arith, ec, no-ones week (place - 37) earlier) in
+      = omega (arith, ec, none-made week (place - 37)) in
       λ j. record {
         channel =
             record {

@@ -1,6 +1,7 @@
 -- Generators brought to a place by leaps.
 --     fits        a course whose numbers fit the code's, by a computed test
 --     phase-lt    the phase is below the cycle's length
+--     none-made   no leaps bring a generator that the signal lacks to its place
 --     leap-asks   so a leap can be asked for
 --     brought-is   the parts make up the generator
 -- Assumes nothing.
@@ -9,7 +10,8 @@ use mathlib.Core.Bool.{Bool, _&&_}
 use Prim.Native.Nat.{ℕ, _+_, _%_, _^_, _≤_, _<_}
 use native.Mathlib.Nat.{mod-lt}
 use native.Mathlib.Omega.{arith}
-use lib.Dec.{T, ltb, leb, ltb→lt, leb→le}
+use lib.Count.{ones}
+use lib.Dec.{T, ltb, leb, lit<, ltb→lt, leb→le}
 use Rattle.registers.proofs.Below.{both}
 use Rattle.leaps.specs.declared.Leapt.{Leapt}
 use Rattle.leaps.specs.Leaps.{Within, leapBy}
@@ -18,6 +20,7 @@ use Rattle.machine.proofs.Tests.{chosen}
 use Rattle.week.specs.declared.Course.{Course}
 use Rattle.week.specs.declared.Standing.{Standing}
 use Rattle.week.specs.Standing.{inPeriod, standingAt, generatorAt}
+use Rattle.week.specs.Week.{idle}
 use Rattle.seeks.specs.Inner.{Fits, placedAs, brought}
 
 -- ---- courses
@@ -47,6 +50,15 @@ phase-lt c w h =
     chosen (λ (s : Standing). s .phase < c .cycle) (ltb w (c .stop))
     (λ t. chosen (λ (s : Standing). s .phase < c .cycle) (ltb (w % c .period) (c .runs)) (λ u. mod-lt _ h) (λ u. mod-lt _ h))
     (λ t. mod-lt _ h)
+
+-- ---- a generator that the signal lacks takes no leaps
+
+no-ones : (n : ℕ) → n < 1 → ones n ≡ 0
+unfolding ones
+no-ones n h = let e : n ≡ 0 = omega arith in rw e
+
+pub none-made : (week w : ℕ) → ones (standingAt (idle week) w .phase) ≡ 0
+none-made week w = no-ones (standingAt (idle week) w .phase) (phase-lt (idle week) w (lit< tt))
 
 -- ---- from its start, by leaps
 

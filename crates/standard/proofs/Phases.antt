@@ -18,11 +18,11 @@ module _ (c : Course) (w : ℕ) where
   unfolding standingAt inPeriod
   phase-runs h i = rw (lt-ltb w (c .stop) h, lt-ltb (w % c .period) (c .runs) i)
 
-  pub phase-held : w < c .stop → c .runs ≤ w % c .period → standingAt c w .phase ≡ c .runs % c .cycle
+  phase-held : w < c .stop → c .runs ≤ w % c .period → standingAt c w .phase ≡ c .runs % c .cycle
   unfolding standingAt inPeriod
   phase-held h i = rw (lt-ltb w (c .stop) h, le-ltb (w % c .period) (c .runs) i)
 
-  pub phase-stopped : c .stop ≤ w → standingAt c w .phase ≡ c .stop % c .period % c .cycle
+  phase-stopped : c .stop ≤ w → standingAt c w .phase ≡ c .stop % c .period % c .cycle
   unfolding standingAt inPeriod
   phase-stopped h = rw (le-ltb w (c .stop) h)
 

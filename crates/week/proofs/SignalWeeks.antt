@@ -104,7 +104,7 @@ l5-week start =
 
 -- ---- P: X1A and the epoch
 
-pub x1a-at : (w : ℕ) → w < weekP → generatorAt x1a courseX1A w .cycles ≡ w % 15345000 / 4092
+x1a-at : (w : ℕ) → w < weekP → generatorAt x1a courseX1A w .cycles ≡ w % 15345000 / 4092
 x1a-at w h =
     ap (λ (g : Generator). g .cycles)
     (in-period x1a courseX1A w h ∙ running-in x1a 4092 15345000 15345000 (w % 15345000) (mod-lt w (lit< tt)))
@@ -150,7 +150,7 @@ module _ (prn : ℕ) where
       ∙ rw (returns (w % 15345000 / 4092) 0 (omega arith) refl, eq-eqb (w / 15345000) 403199 last)
 
   -- the week-end test is true from the week's last X1A cycle on
-  pub end-is : (w : ℕ) → w < weekP → late w ≡ endAt p coursesP w
+  end-is : (w : ℕ) → w < weekP → late w ≡ endAt p coursesP w
   end-is w h =
       ⊎-elim
       (λ (i : w < lastCycle).

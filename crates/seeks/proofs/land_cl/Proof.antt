@@ -6,7 +6,8 @@ use borrow.Author.Needs.{needs}
 use Rattle.machine.specs.Signals.{weekL2, none, cl}
 use Rattle.week.specs.Week.{idle, courseCL}
 use Rattle.seeks.specs.declared.Brought.{Brought}
-use Rattle.seeks.proofs.Landing.{lacking-at, no-ones, plain-landed}
+use Rattle.seeks.proofs.Phases.{none-made}
+use Rattle.seeks.proofs.Landing.{lacking-at, plain-landed}
 use Rattle.seeks.proofs.land_cl.Statement.{statement}
 use Rattle.seeks.proofs.land_cl.Tie as tie
 
@@ -27,7 +28,7 @@ returns c =
     ∙ plain-landed weekL2 none (cl (a .start)) (idle weekL2) courseCL _ (a .signal) (a .prn) (a .place) h _ _ _
     (c .before .fresh-generator .ensures ∙ sym (lacking-at weekL2 (a .place) h))
     (ap (λ (x : Brought). x .generator) (c .before .before .seek-cl .ensures))
-    (omega (arith, ap (λ (x : Brought). x .count) (c .before .before .seek-cl .ensures), no-ones weekL2 (a .place) h))
+    (omega (arith, ap (λ (x : Brought). x .count) (c .before .before .seek-cl .ensures), none-made weekL2 (a .place)))
 
 pub land-cl-spec : {M : Type 1} → statement M
 land-cl-spec =
