@@ -1,9 +1,10 @@
 -- What the replies say of open, seek and step together.
 --     257 and 4,294,967,297 are refused and not narrowed; of two refusals the first written is given
 --     steps-accepted   a channel that open gives is stepped for ever, and the n-th step gives the machine's chip at n
---     seek-forgets     of the old channel only signal and PRN matter
---     seeks-accepted   from wherever steps lead, a seek leads to every place of the week, and W is refused with 3
+--     seek-past        a place from W on is refused with 3, seek-out-of-range: and before that a channel out of range with 4
 --     leaps-few        no seek tells more than 44 leaps
+--     seek-forgets     of the old channel only signal and PRN matter
+--     seeks-accepted   from wherever steps lead, a seek leads to every place of the week
 --     chip-there       the step from a place sought gives the standards' chip there
 -- Assumes nothing.
 use mathlib.Core.Bool.{true, false}
@@ -15,13 +16,12 @@ use native.Mathlib.Omega.{arith}
 use lib.Dec.{ltb}
 use lib.ListN.{length, getD}
 use borrow.Author.Tests.{lt-ltb, le-ltb}
-use Rattle.registers.proofs.Repeat.{times-last}
 use Rattle.machine.specs.Signals.{weekOf}
 use Rattle.machine.specs.Machine.{opened, step, advance, chip, inRange, isSignal, isPrn}
 use Rattle.machine.specs.declared.Channel.{Channel}
 use Rattle.machine.proofs.Tests.{chosen}
-use Rattle.machine.proofs.Ranges.{signal-in, prn-in}
-use Rattle.machine.proofs.RangeLaw.{opened-in, advance-in}
+use Rattle.machine.proofs.Advance.{advance-last}
+use Rattle.machine.proofs.RangeLaw.{reached-in}
 use Rattle.week.proofs.LawOfTheWeek.{law-of-the-week}
 use Rattle.standard.specs.Standard.{standard}
 use Rattle.standard.proofs.EveryChip.{every-chip}
@@ -55,19 +55,12 @@ accepted : (ch : Channel) → inRange ch ≡ true → stepReply ch ≡ steppedWi
 unfolding stepReply
 accepted ch e = simp e
 
-one-more : (n : ℕ) (ch : Channel) → step (advance n ch) ≡ advance (suc n) ch
-unfolding advance
-one-more n ch = sym (times-last step n ch)
-
 pub steps-accepted : (signal prn n : ℕ) → isSignal signal ≡ true → isPrn prn ≡ true
     → stepReply (advance n (opened signal prn))
     ≡ steppedWith (chip (advance n (opened signal prn))) (advance (suc n) (opened signal prn))
 steps-accepted signal prn n s p =
     let here = advance n (opened signal prn) in
-    let listed = signal-in signal s in
-    let ranged = advance-in n (opened signal prn) (opened-in signal prn (listed .0) (listed .1) (prn-in prn p)) in
-    accepted here ranged
-    ∙ ap (steppedWith (chip here)) (one-more n (opened signal prn))
+    accepted here (reached-in signal prn n s p) ∙ ap (steppedWith (chip here)) (sym (advance-last n (opened signal prn)))
 
 -- ---- seeks
 
@@ -112,11 +105,9 @@ module _ (signal prn : ℕ) (is-signal : isSignal signal ≡ true) (is-prn : isP
       → seekReply (advance n (opened signal prn)) place ≡ soughtWith (leapsTo signal prn place) (advance place (opened signal prn))
   seeks-accepted n place h =
       let here = advance n (opened signal prn) in
-      let listed = signal-in signal is-signal in
-      let ranged = advance-in n (opened signal prn) (opened-in signal prn (listed .0) (listed .1) (prn-in prn is-prn)) in
       let same-signal : here .signal ≡ signal = ap (λ (ch : Channel). ch .signal) (law-of-the-week signal prn n) in
       let same-prn : here .prn ≡ prn = ap (λ (ch : Channel). ch .prn) (law-of-the-week signal prn n) in
-      seek-accepted here place ranged (subst (λ (s : ℕ). place < weekOf s) (sym same-signal) h)
+      seek-accepted here place (reached-in signal prn n is-signal is-prn) (subst (λ (s : ℕ). place < weekOf s) (sym same-signal) h)
       ∙ ap₂ (λ (s i : ℕ). soughtWith (leapsTo s i place) (advance place (opened s i))) same-signal same-prn
 
   pub chip-there : (place : ℕ) → place < weekOf signal → stepReply (advance place (opened signal prn)) .chips ≡ standard signal prn place ∷ []

@@ -5,7 +5,7 @@
 -- Where the list names no PRN, the row is for every PRN.
 -- Assumes nothing.
 use mathlib.Core.Bool.{true}
-use mathlib.Core.Path.{_≡_, refl, ap, ap₂, _∙_}
+use mathlib.Core.Path.{_≡_, refl, sym, ap, ap₂, _∙_}
 use mathlib.Core.List.{List, [], _∷_}
 use Prim.Native.Nat.{ℕ, zero, suc, _+_, _-_, _*_, _/_, _%_, _^_, _<_}
 use native.Mathlib.Nat.{pow-suc}
@@ -21,6 +21,7 @@ use Rattle.machine.specs.Signals.{weekOf}
 use Rattle.machine.specs.Machine.{chips, chip, step, opened, advance, isSignal, isPrn}
 use Rattle.machine.specs.declared.Mode.the-variants.{Held}
 use Rattle.machine.specs.declared.Channel.{Channel}
+use Rattle.machine.proofs.Advance.{advance-none}
 use Rattle.week.specs.Standing.{inPeriod, standingAt, generatorAt}
 use Rattle.week.proofs.LawOfTheWeek.{at-place, last-step}
 use Rattle.seeks.specs.Leaps.{phaseOnes, leapsTo}
@@ -147,9 +148,10 @@ ones-in (suc k) n h = ones-step n ∙ ap (λ (x : ℕ). n % 2 + x) (ones-in k (n
 
 -- a seek from an opened channel tells the leaps of the rule
 tells : (signal prn place n : ℕ) → isSignal signal ≡ true → isPrn prn ≡ true → place < weekOf signal → leapsTo signal prn place ≡ n → leapsOf signal prn place ≡ n ∷ []
-unfolding advance times
 tells signal prn place n is-signal is-prn h e =
-    ap (λ (r : Reply). r .leaps) (seeks-accepted signal prn is-signal is-prn 0 place h) ∙ ap (λ (m : ℕ). m ∷ []) e
+    ap (λ (ch : Channel). seekReply ch place .leaps) (sym (advance-none (opened signal prn)))
+    ∙ ap (λ (r : Reply). r .leaps) (seeks-accepted signal prn is-signal is-prn 0 place h)
+    ∙ ap (λ (m : ℕ). m ∷ []) e
 
 leaps-of-p : (prn : ℕ) → leapsTo 2 prn 15344999 ≡ 40
 unfolding leapsTo generatorAt standingAt inPeriod onesIn

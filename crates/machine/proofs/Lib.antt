@@ -1,4 +1,5 @@
 pub mod Tests
+pub mod Advance
 pub mod Ranges
 pub mod RangeLaw
 pub mod Numbered

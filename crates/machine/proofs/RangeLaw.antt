@@ -1,11 +1,12 @@
 -- The range law: an opened channel is in range, and a step keeps a channel in range, whatever its signal and PRN.
 --     opened-in   a channel is in range where it is opened
 --     step-in     a channel in range is in range one step on; advance-in, any number of steps on
+--     reached-in  so a channel that steps reach from where open gives it is in range
 --     Sound k     what the constants of a generator have to be for that; SoundSignal s, those of a signal
 -- Assumes nothing.
-use Prim.Native.Nat.{ℕ, zero, suc, _+_, _-_, _^_, _≤_, _<_, zero-le}
 use mathlib.Core.Bool.{Bool, true, false, _&&_}
 use mathlib.Core.Path.{_≡_, refl}
+use Prim.Native.Nat.{ℕ, zero, suc, _+_, _-_, _^_, _≤_, _<_, zero-le}
 use native.Mathlib.Nat.{mod-lt}
 use native.Mathlib.Omega.{arith}
 use lib.Dec.{leb, eqb, lit<, lit≤}
@@ -20,14 +21,14 @@ use Rattle.starts.proofs.Ranges.{start-cm-in, start-cl-in, start-i5-in, start-q
 use Rattle.machine.specs.Generators.{Kind, fresh, upTo, stepIn, stepGenerator, modeInRange, heldAt, heldAtEnd}
 use Rattle.machine.specs.Signals.{Signal, none, plain, g1, g2, x1a, x1b, x2a, x2b, cm, cl, xa, xb}
 use Rattle.machine.specs.Signals.{signalCA, signalP, fromCM, fromCL, fromL5, signals, noSignal, signalOf}
-use Rattle.machine.specs.Machine.{returned, stepAs, step, advance, openedAs, opened, inRange}
+use Rattle.machine.specs.Machine.{returned, stepAs, step, advance, openedAs, opened, isSignal, isPrn, inRange}
 use Rattle.machine.specs.Ranged.{RangedKind, RangedAs, Ranged}
 use Rattle.machine.specs.declared.Mode.{Mode}
 use Rattle.machine.specs.declared.Mode.the-variants.{Running, Held}
 use Rattle.machine.specs.declared.Generator.{Generator}
 use Rattle.machine.specs.declared.Channel.{Channel}
 use Rattle.machine.proofs.Tests.{both-left, both-right, both-true, chosen}
-use Rattle.machine.proofs.Ranges.{ranged, in-range}
+use Rattle.machine.proofs.Ranges.{signal-in, prn-in, ranged, in-range}
 
 -- ---- one generator
 
@@ -205,3 +206,8 @@ opened-in signal prn first last listed =
       prn-in = listed;
       fields-in = opened-as-in (signalOf signal prn) signal prn (sound-of signal prn);
     })
+
+pub reached-in : (signal prn n : ℕ) → isSignal signal ≡ true → isPrn prn ≡ true → inRange (advance n (opened signal prn)) ≡ true
+reached-in signal prn n is-signal is-prn =
+    let listed = signal-in signal is-signal in
+    advance-in n (opened signal prn) (opened-in signal prn (listed .0) (listed .1) (prn-in prn is-prn))

@@ -5,14 +5,14 @@ use Prim.Native.Nat.{ℕ, suc, _+_, _-_, _*_, _%_, _^_, _≤_, _<_}
 use native.Mathlib.Nat.{sub-self}
 use native.Mathlib.Numerals.{add-one}
 use native.Mathlib.Omega.{arith}
-use lib.Dec.{lit<, lit≤}
+use lib.Dec.{lit<}
 use Rattle.machine.specs.Generators.{stepGenerator}
 use Rattle.machine.specs.Signals.{weekP, signalP, x2a, x2b}
-use Rattle.machine.specs.Machine.{nextLine, opened, advance, inRange}
+use Rattle.machine.specs.Machine.{nextLine, inRange}
 use Rattle.machine.specs.Ranged.{RangedKind, RangedAs}
 use Rattle.machine.specs.declared.Generator.{Generator}
 use Rattle.machine.proofs.Ranges.{ranged}
-use Rattle.machine.proofs.RangeLaw.{opened-in, advance-in}
+use Rattle.machine.proofs.RangeLaw.{reached-in}
 use Rattle.machine.proofs.Numbered.{fields-as}
 use Rattle.week.specs.Standing.{generatorAt}
 use Rattle.week.specs.Week.{chipX2, lineFrom, coursesP, courseX2A, courseX2B, channelAt}
@@ -28,9 +28,8 @@ x2 = chipX2 (signalP 1) coursesP
 
 in-range : (w : ℕ) → w < weekP → RangedAs (signalP 1) (channelAt (signalP 1) coursesP 2 1 w w)
 in-range w h =
-    let here : inRange (advance w (opened 2 1)) ≡ _ = advance-in w (opened 2 1) (opened-in 2 1 (lit≤ tt) (lit≤ tt) (record { first = lit≤ tt; last = lit≤ tt })) in
-    let there : inRange (channelAt (signalP 1) coursesP 2 1 w w) ≡ _ = sym (ap inRange (at-place 2 1 w h)) ∙ here in
-    fields-as (channelAt (signalP 1) coursesP 2 1 w w) refl (ranged (channelAt (signalP 1) coursesP 2 1 w w) there)
+    let there = channelAt (signalP 1) coursesP 2 1 w w in
+    fields-as there refl (ranged there (sym (ap inRange (at-place 2 1 w h)) ∙ reached-in 2 1 w refl refl))
 
 module _ (from w : ℕ) (x y : Generator) (line : ℕ) where
   pub third-in : w < weekP → Filled from w (record { third = x; fourth = y; delay = line }) → RangedKind x2a x

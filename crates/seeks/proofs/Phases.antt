@@ -1,9 +1,9 @@
 -- Generators brought to a place by leaps.
 --     fits        a course whose numbers fit the code's, by a computed test
 --     phase-lt    the phase is below the cycle's length
---     none-made   no leaps bring a generator that the signal lacks to its place
---     leap-asks   so a leap can be asked for
---     brought-is   the parts make up the generator
+--     none-made   a generator that the signal lacks takes no leaps
+--     leap-asks   what a leap asks for
+--     brought-is  the parts make up the generator
 -- Assumes nothing.
 use mathlib.Core.Path.{_≡_}
 use mathlib.Core.Bool.{Bool, _&&_}

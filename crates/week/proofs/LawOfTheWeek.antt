@@ -7,11 +7,10 @@
 use mathlib.Core.Path.{_≡_, refl, sym, ap, _∙_}
 use Prim.Native.Nat.{ℕ, suc, _%_, _<_}
 use native.Mathlib.Nat.{mod-self, mod-eq-of-lt, mod-mod}
-use Rattle.registers.specs.Times.{times}
-use Rattle.registers.proofs.Repeat.{times-last}
 use Rattle.machine.specs.Signals.{signalOf, weekOf}
 use Rattle.machine.specs.Machine.{step, advance, opened}
 use Rattle.machine.specs.declared.Channel.{Channel}
+use Rattle.machine.proofs.Advance.{advance-none, advance-last}
 use Rattle.machine.proofs.Numbered.{week-is}
 use Rattle.week.specs.Week.{coursesOf, channelAt}
 use Rattle.week.proofs.ChannelWeek.{gone}
@@ -34,13 +33,7 @@ module _ (signal prn : ℕ) where
   weeks-pass n = law-of-the-week n ∙ ap at (sym (mod-mod n (weekOf signal))) ∙ sym (law-of-the-week (n % weekOf signal))
 
   pub week-passes : advance (weekOf signal) (opened signal prn) ≡ opened signal prn
-  week-passes = weeks-pass (weekOf signal) ∙ ap (λ (n : ℕ). advance n (opened signal prn)) (mod-self (weekOf signal)) ∙ no-step
-    where
-      no-step : advance 0 (opened signal prn) ≡ opened signal prn
-      no-step = unfold advance times in refl
+  week-passes = weeks-pass (weekOf signal) ∙ ap (λ (n : ℕ). advance n (opened signal prn)) (mod-self (weekOf signal)) ∙ advance-none (opened signal prn)
 
   pub last-step : (n : ℕ) → suc n ≡ weekOf signal → step (advance n (opened signal prn)) ≡ opened signal prn
-  last-step n e = one-more ∙ ap (λ (m : ℕ). advance m (opened signal prn)) e ∙ week-passes
-    where
-      one-more : step (advance n (opened signal prn)) ≡ advance (suc n) (opened signal prn)
-      one-more = unfold advance in sym (times-last step n (opened signal prn))
+  last-step n e = sym (advance-last n (opened signal prn)) ∙ ap (λ (m : ℕ). advance m (opened signal prn)) e ∙ week-passes

@@ -49,8 +49,7 @@ module _ (k : Kind) (flag : Bool) where
   -- at the last phase of a cycle: it starts again
   step-again : (p c c′ : ℕ) → p ≡ k .last c → cond (eqb c (k .highest)) 0 (c + 1) ≡ c′ → stepGenerator k flag (stand k p c Running) ≡ stand k 0 c′ Running
   unfolding times
-  step-again p c c′ h e =
-      rw (eq-eqb p (k .last c) h, e)
+  step-again p c c′ h e = rw (eq-eqb p (k .last c) h, e)
 
   pub step-rise : (p c : ℕ) → p ≡ k .last c → (c ≡ k .highest → ⊥) → stepGenerator k flag (stand k p c Running) ≡ stand k 0 (suc c) Running
   step-rise p c h n = step-again p c (suc c) h (rw (ne-eqb c (k .highest) n, add-one))
