@@ -1,14 +1,36 @@
-# Two commands: `make run` does the main job, `make test` proves and tests everything.
+# `make run` does the main job, `make test` proves and tests everything. `make lib` writes the archive for C.
 
-.PHONY: run test
+.PHONY: run lib test
 
-# The main job is the line program: lines of signal, PRN, place and count in, chips out.
-run:
-	@echo 'The line program is not built yet: so far the repository has the stepped machine of all six'
-	@echo 'signals and the calls open, seek and step, with proofs. "make test" checks them all.'
+archive := target/staticlib/libgps_chips.a
+header := include/gps_chips.h
 
-# From nothing: every proof, every wrong answer that has to be refused, every program.
+CC ?= cc
+
+# What `make run` prints: SIGNAL PRN PLACE COUNT. Here the first twelve chips of P of PRN 1.
+CHIPS ?= 2 1 0 12
+
+need = @command -v $(1) >/dev/null || { echo 'make: $(2) is not on the PATH' >&2; exit 1; }
+
+# The line program, which reads such requests as lines, is to come; until then the C host program prints the chips of one.
+run: lib
+	@mkdir -p target/host
+	@$(CC) -std=c99 -O2 -Iinclude host/chips.c $(archive) -o target/host/chips
+	@echo 'target/host/chips $(CHIPS)'
+	@target/host/chips $(CHIPS)
+
+# Proves the call for C and all below it, and writes it as an archive.
+lib:
+	$(call need,rt,the Rattle toolchain (rt))
+	$(call need,$(firstword $(CC)),a C compiler ($(CC)))
+	@mkdir -p target
+	@rt staticlib gps_chips >target/lib.log 2>&1 || { cat target/lib.log >&2; exit 1; }
+	@echo 'archive: $(archive)'
+	@echo 'header:  $(header)'
+	@echo 'link:    cc prog.c -Iinclude $(archive)'
+
+# From nothing: the C side, then every proof, every wrong answer that has to be refused, every program.
 # The last line is rt's verdict, "N passed, 0 failed".
-test:
-	@command -v rt >/dev/null || { echo 'make test: the Rattle toolchain (rt) is not on the PATH' >&2; exit 1; }
+test: lib
+	@tests/host/run.sh $(archive)
 	@rt ci

@@ -1,5 +1,6 @@
 -- What the replies say of open, seek and step together.
 --     257 and 4,294,967,297 are refused and not narrowed; of two refusals the first written is given
+--     open-accepted    a channel that open gives is the opened one, of a signal and PRN that there are
 --     steps-accepted   a channel that open gives is stepped for ever, and the n-th step gives the machine's chip at n
 --     seek-past        a place from W on is refused with 3, seek-out-of-range: and before that a channel out of range with 4
 --     leaps-few        no seek tells more than 44 leaps
@@ -7,7 +8,7 @@
 --     seeks-accepted   from wherever steps lead, a seek leads to every place of the week
 --     chip-there       the step from a place sought gives the standards' chip there
 -- Assumes nothing.
-use mathlib.Core.Bool.{true, false}
+use mathlib.Core.Bool.{Bool, true, false, cond}
 use mathlib.Core.Path.{_≡_, refl, sym, ap, ap₂, subst, _∙_}
 use mathlib.Core.List.{List, [], _∷_}
 use Prim.Native.Nat.{ℕ, suc, _≤_, _<_}
@@ -27,7 +28,7 @@ use Rattle.standard.specs.Standard.{standard}
 use Rattle.standard.proofs.EveryChip.{every-chip}
 use Rattle.seeks.specs.Leaps.{leapsTo}
 use Rattle.seeks.proofs.FewLeaps.{at-most-44}
-use Rattle.engine.specs.Replies.{refusal, openReply, Reply, refusedWith, soughtWith, seekReply, steppedWith, stepReply}
+use Rattle.engine.specs.Replies.{channel, refusal, openReply, Reply, refusedWith, soughtWith, seekReply, steppedWith, stepReply}
 
 pub signal-257 : (prn : ℕ) → openReply 257 prn ≡ refusal 1
 unfolding openReply
@@ -48,6 +49,19 @@ prn-4294967297 = refl
 pub first-written : openReply 0 0 ≡ refusal 1
 unfolding openReply
 first-written = refl
+
+-- ---- an accepted open
+
+pub open-accepted : (signal prn : ℕ) (ch : Channel) → openReply signal prn ≡ channel ch
+    → (isSignal signal ≡ true) × (isPrn prn ≡ true) × (ch ≡ opened signal prn)
+unfolding openReply
+open-accepted signal prn ch = by (isSignal signal) (isPrn prn)
+  where
+    by : (s p : Bool) → cond s (cond p (channel (opened signal prn)) (refusal 2)) (refusal 1) ≡ channel ch
+        → (s ≡ true) × (p ≡ true) × (ch ≡ opened signal prn)
+    by true true e = (refl, refl, cc)
+    by true false e = (refl, cc, cc)
+    by false p e = (cc, cc, cc)
 
 -- ---- steps from an opened channel
 

@@ -37,7 +37,7 @@ fn restart(g: Generator, start: u32, highest: u32) -> Generator
 }
 
 // One chip on in its cycle.
-fn move_on(g: Generator, shifted: u32, arrival: Mode) -> Generator
+pub fn move_on(g: Generator, shifted: u32, arrival: Mode) -> Generator
     requires { ⌜ g .phase + 1 < 2 ^ 32 ⌝ }
     ensures { λ r. ⌜ r ≡ moved shifted arrival g ⌝ }
 {

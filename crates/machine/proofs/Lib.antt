@@ -1,5 +1,6 @@
 pub mod Tests
 pub mod Advance
+pub mod Chips
 pub mod Ranges
 pub mod RangeLaw
 pub mod Numbered

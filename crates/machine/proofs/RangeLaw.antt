@@ -13,7 +13,6 @@ use lib.Dec.{leb, eqb, lit<, lit≤}
 use lib.ListN.{getD}
 use lib.Pow.{pow-pos}
 use borrow.Author.Tests.{leb-true, le-leb, eqb-false}
-use Rattle.registers.specs.Times.{times}
 use Rattle.registers.proofs.Shifts.{Shift}
 use Rattle.registers.proofs.Shifts as shifts
 use Rattle.starts.specs.Starts.{Listed}
@@ -28,6 +27,7 @@ use Rattle.machine.specs.declared.Mode.the-variants.{Running, Held}
 use Rattle.machine.specs.declared.Generator.{Generator}
 use Rattle.machine.specs.declared.Channel.{Channel}
 use Rattle.machine.proofs.Tests.{both-left, both-right, both-true, chosen}
+use Rattle.machine.proofs.Advance.{advance-keeps}
 use Rattle.machine.proofs.Ranges.{signal-in, prn-in, ranged, in-range}
 
 -- ---- one generator
@@ -192,9 +192,7 @@ pub step-in : (ch : Channel) → inRange ch ≡ true → inRange (step ch) ≡ t
 step-in ch e = in-range (step ch) (step-ranged ch (ranged ch e))
 
 pub advance-in : (n : ℕ) (ch : Channel) → inRange ch ≡ true → inRange (advance n ch) ≡ true
-unfolding advance times
-advance-in zero ch e = e
-advance-in (suc n) ch e = advance-in n (step ch) (step-in ch e)
+advance-in = advance-keeps (λ (ch : Channel). inRange ch ≡ true) step-in
 
 pub opened-in : (signal prn : ℕ) → 1 ≤ signal → signal ≤ 6 → Listed 37 prn → inRange (opened signal prn) ≡ true
 unfolding opened

@@ -1,6 +1,6 @@
 -- The signals of the stepped machine, each as one record of constants: document 01, "Signals and places" and "The stepped machine".
 -- Assumes nothing.
-use Prim.Native.Nat.{ℕ, _+_, _-_, _%_, _^_}
+use Prim.Native.Nat.{ℕ, zero, suc, _+_, _-_, _%_, _^_}
 use mathlib.Core.Bool.{Bool, true, false, cond}
 use mathlib.Core.List.{List, [], _∷_}
 use lib.Dec.{eqb}
@@ -41,6 +41,11 @@ weekL2 = 309355200000
 
 abbrev pub weekL5 : ℕ
 weekL5 = 6187104000000
+
+-- n places from p on, round a week of w: "After the last place comes place 0."
+unfoldable pub placesFrom : ℕ → ℕ → ℕ → List ℕ
+placesFrom w p zero = []
+placesFrom w p (suc n) = p % w ∷ placesFrom w (suc p) n
 
 -- ---- forms of a generator
 

@@ -1,0 +1,2 @@
+-- What Chips answers and writes.
+pub mod Chips

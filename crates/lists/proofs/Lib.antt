@@ -1,0 +1,3 @@
+-- `EveryList` is the theorem.
+pub mod OneCall
+pub mod EveryList

@@ -1,0 +1,2 @@
+pub mod ChipsSoFar
+pub mod QuietRuns
