@@ -5,8 +5,6 @@
 archive := target/staticlib/libgps_chips.a
 header := include/gps_chips.h
 
-CC ?= cc
-
 # What `make run` prints: SIGNAL PRN PLACE COUNT. Here the first twelve chips of P of PRN 1.
 CHIPS ?= 2 1 0 12
 
@@ -14,6 +12,7 @@ need = @command -v $(1) >/dev/null || { echo 'make: $(2) is not on the PATH' >&2
 
 # The line program, which reads such requests as lines, is to come; until then the C host program prints the chips of one.
 run: lib
+	$(call need,$(firstword $(CC)),a C compiler ($(CC)))
 	@mkdir -p target/host
 	@$(CC) -std=c99 -O2 -Iinclude host/chips.c $(archive) -o target/host/chips
 	@echo 'target/host/chips $(CHIPS)'
@@ -22,8 +21,8 @@ run: lib
 # Proves the call for C and all below it, and writes it as an archive.
 lib:
 	$(call need,rt,the Rattle toolchain (rt))
-	$(call need,$(firstword $(CC)),a C compiler ($(CC)))
 	@mkdir -p target
+	@echo 'proving gps_chips and what it rests on, some two minutes the first time (target/lib.log)'
 	@rt staticlib gps_chips >target/lib.log 2>&1 || { cat target/lib.log >&2; exit 1; }
 	@echo 'archive: $(archive)'
 	@echo 'header:  $(header)'
@@ -32,5 +31,6 @@ lib:
 # From nothing: the C side, then every proof, every wrong answer that has to be refused, every program.
 # The last line is rt's verdict, "N passed, 0 failed".
 test: lib
-	@tests/host/run.sh $(archive)
+	$(call need,$(firstword $(CC)),a C compiler ($(CC)))
+	@CC='$(CC)' tests/host/run.sh $(archive)
 	@rt ci

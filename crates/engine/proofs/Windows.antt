@@ -15,25 +15,25 @@ use Rattle.machine.specs.Machine.{advance, chips, inRange}
 use Rattle.machine.specs.declared.Channel.{Channel}
 use Rattle.machine.proofs.Chips.{chips-length}
 use Rattle.runs.proofs.ChipsSoFar.{put-back}
-use Rattle.engine.specs.Replies.{writtenWith, unwrittenWith, written, windowReply}
+use Rattle.engine.specs.Replies.{mostChips, writtenWith, unwrittenWith, written, windowReply}
 
 module _ (ch : Channel) (count : ℕ) (buffer : List ℕ) (at : ℕ) where
   pub window-out-of-range : inRange ch ≡ false → windowReply ch count buffer at ≡ unwrittenWith 4 buffer ch
   unfolding windowReply
   window-out-of-range out = simp out
 
-  pub window-too-many : inRange ch ≡ true → 65536 < count → windowReply ch count buffer at ≡ unwrittenWith 5 buffer ch
+  pub window-too-many : inRange ch ≡ true → mostChips < count → windowReply ch count buffer at ≡ unwrittenWith 5 buffer ch
   unfolding windowReply
-  window-too-many ranged many = simp (ranged, lt-leb count 65536 many)
+  window-too-many ranged many = simp (ranged, lt-leb count mostChips many)
 
-  pub window-no-room : inRange ch ≡ true → count ≤ 65536 → length buffer < at + count → windowReply ch count buffer at ≡ unwrittenWith 6 buffer ch
+  pub window-no-room : inRange ch ≡ true → count ≤ mostChips → length buffer < at + count → windowReply ch count buffer at ≡ unwrittenWith 6 buffer ch
   unfolding windowReply
-  window-no-room ranged few short = simp (ranged, le-leb count 65536 few, lt-leb (at + count) (length buffer) short)
+  window-no-room ranged few short = simp (ranged, le-leb count mostChips few, lt-leb (at + count) (length buffer) short)
 
-  pub window-accepted : inRange ch ≡ true → count ≤ 65536 → at + count ≤ length buffer
+  pub window-accepted : inRange ch ≡ true → count ≤ mostChips → at + count ≤ length buffer
       → windowReply ch count buffer at ≡ writtenWith (chips count ch) (written at (chips count ch) buffer) (advance count ch)
   unfolding windowReply
-  window-accepted ranged few room = simp (ranged, le-leb count 65536 few, le-leb (at + count) (length buffer) room)
+  window-accepted ranged few room = simp (ranged, le-leb count mostChips few, le-leb (at + count) (length buffer) room)
 
   -- "the count bytes from `at` onward"
   bytes-there : at + count ≤ length buffer → take count (drop at (written at (chips count ch) buffer)) ≡ chips count ch
@@ -42,7 +42,7 @@ module _ (ch : Channel) (count : ℕ) (buffer : List ℕ) (at : ℕ) where
       ap (take count) (drop-at (take at buffer) (chips count ch ++ behind) at (length-take-le at buffer (omega (arith, room))))
       ∙ take-at (chips count ch) behind count (chips-length count ch)
 
-  pub window-written : inRange ch ≡ true → count ≤ 65536 → at + count ≤ length buffer → (after : List ℕ) (next : Channel)
+  pub window-written : inRange ch ≡ true → count ≤ mostChips → at + count ≤ length buffer → (after : List ℕ) (next : Channel)
       → after
       ≡ take at buffer
       ++ ((chips count ch ++ drop count (take (length buffer - at) (drop at buffer))) ++ drop (length buffer - at) (drop at buffer))

@@ -91,6 +91,10 @@ stepReply ch = cond (inRange ch) (steppedWith (chip ch) (step ch)) (refusedWith 
 
 -- ---- window
 
+-- the most chips that one call writes
+abbrev pub mostChips : ℕ
+mostChips = 65536
+
 -- an accepted window, given the chips, its buffer after the call and the channel
 abbrev pub writtenWith : List ℕ → List ℕ → Channel → Reply
 writtenWith chips after ch = record { refused = 0; leaps = []; chips = chips; buffers = after ∷ []; channel = ch }
@@ -116,7 +120,7 @@ written at bytes buffer = take at buffer ++ (bytes ++ drop (at + length bytes) b
 unfoldable pub windowReply : Channel → ℕ → List ℕ → ℕ → Reply
 windowReply ch count buffer at =
     cond (inRange ch)
-    (cond (leb count 65536)
+    (cond (leb count mostChips)
     (cond (leb (at + count) (length buffer))
     (writtenWith (chips count ch) (written at (chips count ch) buffer) (advance count ch))
     (unwrittenWith 6 buffer ch))

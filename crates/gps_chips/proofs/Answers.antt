@@ -16,6 +16,7 @@ use Rattle.machine.specs.Signals.{weekOf}
 use Rattle.machine.specs.Machine.{opened, advance, chips, isSignal, isPrn}
 use Rattle.machine.specs.declared.Channel.{Channel}
 use Rattle.standard.proofs.EveryChip.{every-window}
+use Rattle.engine.specs.Replies.{mostChips}
 use Rattle.gps_chips.specs.Chips.{chipsAnswer, chipsBuffer, byTheMachine, byTheStandards}
 
 module _ (signal prn place : ℕ) (buffer : List ℕ) where
@@ -42,14 +43,14 @@ module _ (signal prn place : ℕ) (buffer : List ℕ) where
   pub no-place : isSignal signal ≡ true → isPrn prn ≡ true → weekOf signal ≤ place → Answered 3 buffer
   no-place s p past = unwritten 3 refl (unfold chipsAnswer in simp (s, p, le-ltb place (weekOf signal) past))
 
-  pub too-long : isSignal signal ≡ true → isPrn prn ≡ true → place < weekOf signal → 65536 < length buffer → Answered 5 buffer
+  pub too-long : isSignal signal ≡ true → isPrn prn ≡ true → place < weekOf signal → mostChips < length buffer → Answered 5 buffer
   too-long s p within long =
-      unwritten 5 refl (unfold chipsAnswer in simp (s, p, lt-ltb place (weekOf signal) within, lt-leb (length buffer) 65536 long))
+      unwritten 5 refl (unfold chipsAnswer in simp (s, p, lt-ltb place (weekOf signal) within, lt-leb (length buffer) mostChips long))
 
-  module _ (s : isSignal signal ≡ true) (p : isPrn prn ≡ true) (within : place < weekOf signal) (short : length buffer ≤ 65536) where
+  module _ (s : isSignal signal ≡ true) (p : isPrn prn ≡ true) (within : place < weekOf signal) (short : length buffer ≤ mostChips) where
     pub accepted : answer ≡ 0
     unfolding chipsAnswer
-    accepted = simp (s, p, lt-ltb place (weekOf signal) within, le-leb (length buffer) 65536 short)
+    accepted = simp (s, p, lt-ltb place (weekOf signal) within, le-leb (length buffer) mostChips short)
 
     -- the chips as the loop writes them, before what stays behind them: nothing
     pub filled : (there : Channel) (after : List ℕ) → there ≡ advance place (opened signal prn)

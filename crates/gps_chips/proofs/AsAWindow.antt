@@ -12,7 +12,7 @@ use Rattle.machine.specs.declared.Channel.{Channel}
 use Rattle.machine.proofs.Advance.{advance-none}
 use Rattle.machine.proofs.Chips.{chips-length}
 use Rattle.machine.proofs.RangeLaw.{reached-in}
-use Rattle.engine.specs.Replies.{openReply, channel, Reply, seekReply, windowReply, written}
+use Rattle.engine.specs.Replies.{mostChips, openReply, channel, Reply, seekReply, windowReply, written}
 use Rattle.engine.proofs.Calls.{open-accepted, seeks-accepted}
 use Rattle.engine.proofs.Windows.{window-accepted}
 use Rattle.gps_chips.specs.Chips.{chipsBuffer, byTheMachine}
@@ -23,7 +23,7 @@ written-whole : (bytes buffer : List ℕ) → length bytes ≡ length buffer →
 written-whole bytes buffer e =
     ap (λ (l : List ℕ). bytes ++ l) (drop-of-length-le buffer {i = 0 + length bytes} (omega (arith, e))) ∙ append-nil bytes
 
-pub as-a-window : (signal prn place : ℕ) (buffer : List ℕ) (ch : Channel) → openReply signal prn ≡ channel ch → place < weekOf signal → length buffer ≤ 65536
+pub as-a-window : (signal prn place : ℕ) (buffer : List ℕ) (ch : Channel) → openReply signal prn ≡ channel ch → place < weekOf signal → length buffer ≤ mostChips
     → windowReply (seekReply ch place .channel) (length buffer) buffer 0 .buffers ≡ chipsBuffer byTheMachine signal prn place buffer ∷ []
 unfolding chipsBuffer
 as-a-window signal prn place buffer ch e within short =

@@ -8,11 +8,12 @@ use lib.ListN.{length}
 use Rattle.machine.specs.Signals.{weekOf, placesFrom}
 use Rattle.machine.specs.Machine.{opened, advance, chips, isSignal, isPrn}
 use Rattle.standard.specs.Standard.{standard}
+use Rattle.engine.specs.Replies.{mostChips}
 
 -- for a buffer of n bytes: "1, 2, 3, then 5 for its length. It answers 0 or the refusal."
 unfoldable pub chipsAnswer : ℕ → ℕ → ℕ → ℕ → ℕ
 chipsAnswer signal prn place n =
-    cond (isSignal signal) (cond (isPrn prn) (cond (ltb place (weekOf signal)) (cond (leb n 65536) 0 5) 3) 2) 1
+    cond (isSignal signal) (cond (isPrn prn) (cond (ltb place (weekOf signal)) (cond (leb n mostChips) 0 5) 3) 2) 1
 
 -- n chips from a place on: "the chips that a window of its length, on a channel opened and brought to that place, writes"
 abbrev pub byTheMachine : ℕ → ℕ → ℕ → ℕ → List ℕ

@@ -1,6 +1,6 @@
 -- DEMAND 3: "Every list of calls (seeks, steps, windows, refused ones included) from a freshly opened channel leaves the place, every field and all chips that
 -- the stepped machine of document 01 has; refusals occur exactly where the papers set them; each accepted seek tells its leaps, by the rule and at most 44."
---     every-list   it holds: `specs/Lists.antt` says what, in the record `EveryList`
+--     every-list   it holds: `specs/Lists.antt` says what
 -- Assumes nothing.
 use mathlib.Core.Bool.{true}
 use mathlib.Core.List.{List, [], _∷_, _++_, map, flatMap, reverse, reverseAux, map-append}
@@ -20,10 +20,10 @@ use Rattle.standard.specs.Standard.{standard}
 use Rattle.standard.proofs.EveryChip.{every-window}
 use Rattle.seeks.specs.Leaps.{leapsTo}
 use Rattle.seeks.proofs.FewLeaps.{at-most-44}
-use Rattle.engine.specs.Replies.{openReply, channel, Reply}
+use Rattle.engine.specs.Replies.{Reply}
 use Rattle.engine.proofs.Calls.{open-accepted}
 use Rattle.lists.specs.Lists.{Call, replyTo, replies, handedBack, refusalOf, accepted, handsOut, lastSought, handedOutSince, placeAfter, along}
-use Rattle.lists.specs.Lists.{passes, machineChip, leaves, tells, EveryList}
+use Rattle.lists.specs.Lists.{passes, machineChip, leaves, tells, ListOfCalls, EveryList}
 use Rattle.lists.proofs.OneCall.{none-done, machineAt, chips-there, Right, call-right}
 
 -- ---- leaps
@@ -37,7 +37,7 @@ few-told : (signal prn : ℕ) (calls : List Call) (i : ℕ) → getD (flatMap (t
 unfolding flatMap
 few-told signal prn [] i = omega arith
 few-told signal prn (Call.seek place ∷ cs) i =
-    chosen (λ (l : List ℕ). getD (l ++ flatMap (tells signal prn) cs) i 0 ≤ 44) (accepted (weekOf signal) (Call.seek place))
+    chosen (λ (l : List ℕ). getD (l ++ flatMap (tells signal prn) cs) i 0 ≤ 44) (accepted signal (Call.seek place))
     (λ t. one-more (leapsTo signal prn place) (flatMap (tells signal prn) cs) (at-most-44 signal prn place) (few-told signal prn cs) i)
     (λ t. few-told signal prn cs i)
 few-told signal prn (Call.step ∷ cs) i = few-told signal prn cs i
@@ -45,16 +45,16 @@ few-told signal prn (Call.window count buffer at ∷ cs) i = few-told signal prn
 
 -- ---- along a list of calls
 
-module _ (w : ℕ) where
+module _ (signal : ℕ) where
   along-map : {A B : Type 0} (f : A → B) (g : ℕ → Call → List A) (calls done : List Call)
-      → along w (λ (p : ℕ) (c : Call). map f (g p c)) done calls ≡ map f (along w g done calls)
+      → along signal (λ (p : ℕ) (c : Call). map f (g p c)) done calls ≡ map f (along signal g done calls)
   unfolding along
   along-map f g [] done = refl
   along-map f g (c ∷ cs) done =
-      ap (λ x. map f (g (placeAfter w done) c) ++ x) (along-map f g cs (c ∷ done))
-      ∙ sym (map-append f (g (placeAfter w done) c) (along w g (c ∷ done) cs))
+      ap (λ x. map f (g (placeAfter signal done) c) ++ x) (along-map f g cs (c ∷ done))
+      ∙ sym (map-append f (g (placeAfter signal done) c) (along signal g (c ∷ done) cs))
 
-  along-flat : {A : Type 0} (g : Call → List A) (calls done : List Call) → along w (λ (p : ℕ) (c : Call). g c) done calls ≡ flatMap g calls
+  along-flat : {A : Type 0} (g : Call → List A) (calls done : List Call) → along signal (λ (p : ℕ) (c : Call). g c) done calls ≡ flatMap g calls
   unfolding along flatMap
   along-flat g [] done = refl
   along-flat g (c ∷ cs) done = ap (λ x. g c ++ x) (along-flat g cs (c ∷ done))
@@ -64,7 +64,7 @@ module _ (w : ℕ) where
 module _ (signal prn : ℕ) (is-signal : isSignal signal ≡ true) (is-prn : isPrn prn ≡ true) where
   -- the stepped machine after the calls before
   abbrev here : List Call → Channel
-  here done = machineAt signal prn (placeAfter (weekOf signal) done)
+  here done = machineAt signal prn (placeAfter signal done)
 
   right : (done : List Call) (c : Call) → Right signal prn done c (replyTo (here done) c)
   right done c = call-right signal prn is-signal is-prn done c
@@ -76,8 +76,8 @@ module _ (signal prn : ℕ) (is-signal : isSignal signal ≡ true) (is-prn : isP
 
   -- what the calls give, one after the other, is what their arguments say
   gives-along : {A : Type 0} (f : Reply → List A) (g : ℕ → Call → List A)
-      → ((done : List Call) (c : Call) → f (replyTo (here done) c) ≡ g (placeAfter (weekOf signal) done) c)
-      → (calls done : List Call) → flatMap f (replies (here done) calls) ≡ along (weekOf signal) g done calls
+      → ((done : List Call) (c : Call) → f (replyTo (here done) c) ≡ g (placeAfter signal done) c)
+      → (calls done : List Call) → flatMap f (replies (here done) calls) ≡ along signal g done calls
   unfolding replies flatMap along
   gives-along f g each [] done = refl
   gives-along f g each (c ∷ cs) done =
@@ -93,26 +93,25 @@ module _ (signal prn : ℕ) (is-signal : isSignal signal ≡ true) (is-prn : isP
       ap₂ (λ x y. x ∷ y) (each done c)
       (ap (λ (ch : Channel). map f (replies ch cs)) (right done c .channel-is) ∙ gives-each f g each cs (c ∷ done))
 
-  opened-right : (calls : List Call) → EveryList signal prn (opened signal prn) calls
+  opened-right : (calls : List Call) → ListOfCalls signal prn (opened signal prn) calls
   opened-right calls =
-      let week : ℕ = weekOf signal in
       let told = gives-along (λ (r : Reply). r .leaps) (λ (p : ℕ) (c : Call). tells signal prn c) (λ done c. right done c .leaps-are) calls []
-      ∙ along-flat week (tells signal prn) calls [] in
-      subst (λ (ch : Channel). EveryList signal prn ch calls) at-zero
+      ∙ along-flat signal (tells signal prn) calls [] in
+      subst (λ (ch : Channel). ListOfCalls signal prn ch calls) at-zero
       (record {
         place =
             ap (λ (ch : Channel). ch .place) (fields-are calls [])
-            ∙ ap (λ (ch : Channel). ch .place) (law-of-the-week signal prn (placeAfter week (reverse calls)))
-            ∙ mod-mod (lastSought week (reverse calls) + handedOutSince week (reverse calls)) week;
+            ∙ ap (λ (ch : Channel). ch .place) (law-of-the-week signal prn (placeAfter signal (reverse calls)))
+            ∙ mod-mod (lastSought signal (reverse calls) + handedOutSince signal (reverse calls)) (weekOf signal);
         fields = fields-are calls [];
         chips = handed-out (machineChip signal prn) (chips-there signal prn);
         standards = handed-out (standard signal prn) (every-window signal prn is-signal is-prn);
         counts =
-            gives-each (λ (r : Reply). length (r .chips)) (handsOut week)
-            (λ done c. ap length (right done c .chips-are) ∙ chips-length (handsOut week c) (here done))
+            gives-each (λ (r : Reply). length (r .chips)) (handsOut signal)
+            (λ done c. ap length (right done c .chips-are) ∙ chips-length (handsOut signal c) (here done))
             calls
             [];
-        refusals = gives-each (λ (r : Reply). r .refused) (refusalOf week) (λ done c. right done c .refused-is) calls [];
+        refusals = gives-each (λ (r : Reply). r .refused) (refusalOf signal) (λ done c. right done c .refused-is) calls [];
         buffers = gives-along (λ (r : Reply). r .buffers) (leaves signal prn) (λ done c. right done c .buffers-are) calls [];
         leaps = told;
         few = λ i. subst (λ (l : List ℕ). getD l i 0 ≤ 44) (sym told) (few-told signal prn calls i);
@@ -120,19 +119,18 @@ module _ (signal prn : ℕ) (is-signal : isSignal signal ≡ true) (is-prn : isP
     where
       -- chips that can be told place by place
       handed-out : (f : ℕ → ℕ) → ((n p : ℕ) → chips n (machineAt signal prn p) ≡ map f (placesFrom (weekOf signal) p n))
-          → flatMap (λ (r : Reply). r .chips) (replies (here []) calls) ≡ map f (along (weekOf signal) (passes (weekOf signal)) [] calls)
+          → flatMap (λ (r : Reply). r .chips) (replies (here []) calls) ≡ map f (along signal (passes signal) [] calls)
       handed-out f told =
-          gives-along (λ (r : Reply). r .chips) (λ (p : ℕ) (c : Call). map f (passes (weekOf signal) p c))
-          (λ done c. right done c .chips-are ∙ told (handsOut (weekOf signal) c) (placeAfter (weekOf signal) done))
+          gives-along (λ (r : Reply). r .chips) (λ (p : ℕ) (c : Call). map f (passes signal p c))
+          (λ done c. right done c .chips-are ∙ told (handsOut signal c) (placeAfter signal done))
           calls
           []
-          ∙ along-map (weekOf signal) f (passes (weekOf signal)) calls []
+          ∙ along-map signal f (passes signal) calls []
 
       at-zero : here [] ≡ opened signal prn
-      at-zero = ap (machineAt signal prn) (none-done (weekOf signal)) ∙ advance-none (opened signal prn)
+      at-zero = ap (machineAt signal prn) (none-done signal) ∙ advance-none (opened signal prn)
 
--- DEMAND 3, of every list of calls from the channel that an accepted open gave.
-pub every-list : (signal prn : ℕ) (ch : Channel) → openReply signal prn ≡ channel ch → (calls : List Call) → EveryList signal prn ch calls
+pub every-list : EveryList
 every-list signal prn ch e calls =
     let o = open-accepted signal prn ch e in
-    subst (λ (x : Channel). EveryList signal prn x calls) (sym (o .2)) (opened-right signal prn (o .0) (o .1) calls)
+    subst (λ (x : Channel). ListOfCalls signal prn x calls) (sym (o .2)) (opened-right signal prn (o .0) (o .1) calls)

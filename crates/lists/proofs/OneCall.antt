@@ -20,7 +20,7 @@ use Rattle.machine.proofs.Advance.{advance-none, advance-one, advance-last, adv
 use Rattle.machine.proofs.RangeLaw.{reached-in}
 use Rattle.week.proofs.LawOfTheWeek.{law-of-the-week, weeks-pass}
 use Rattle.week.proofs.RoundTheWeek.{chips-round}
-use Rattle.engine.specs.Replies.{channel, Reply, seekReply, stepReply, windowReply, unwrittenWith, written}
+use Rattle.engine.specs.Replies.{mostChips, channel, Reply, seekReply, stepReply, windowReply, unwrittenWith, written}
 use Rattle.engine.proofs.Calls.{steps-accepted, seek-past, seeks-accepted}
 use Rattle.engine.proofs.Windows.{window-too-many, window-no-room, window-accepted}
 use Rattle.lists.specs.Lists.{Call, replyTo, refusalOf, handsOut, lastSought, handedOutSince, placeAfter}
@@ -28,32 +28,32 @@ use Rattle.lists.specs.Lists.{machineChip, leaves, tells}
 
 -- ---- the place after one call more
 
-pub none-done : (w : ℕ) → placeAfter w [] ≡ 0
+pub none-done : (signal : ℕ) → placeAfter signal [] ≡ 0
 unfolding lastSought handedOutSince
-none-done w = zero-mod w
+none-done signal = zero-mod (weekOf signal)
 
-module _ (w : ℕ) (done : List Call) where
-  place-sought : (place : ℕ) → place < w → placeAfter w (Call.seek place ∷ done) ≡ place
+module _ (signal : ℕ) (done : List Call) where
+  place-sought : (place : ℕ) → place < weekOf signal → placeAfter signal (Call.seek place ∷ done) ≡ place
   unfolding lastSought handedOutSince
-  place-sought place h = simp (lt-ltb place w h, add-zero) (mod-eq-of-lt h)
+  place-sought place h = simp (lt-ltb place (weekOf signal) h, add-zero) (mod-eq-of-lt h)
 
-  place-not-sought : (place : ℕ) → w ≤ place → placeAfter w (Call.seek place ∷ done) ≡ placeAfter w done
+  place-not-sought : (place : ℕ) → weekOf signal ≤ place → placeAfter signal (Call.seek place ∷ done) ≡ placeAfter signal done
   unfolding lastSought handedOutSince
-  place-not-sought place h = simp (le-ltb place w h)
+  place-not-sought place h = simp (le-ltb place (weekOf signal) h)
 
   -- n chips on from there
   place-on : ℕ → ℕ
-  place-on n = (lastSought w done + handedOutSince w done + n) % w
+  place-on n = (lastSought signal done + handedOutSince signal done + n) % weekOf signal
 
-  place-stepped : placeAfter w (Call.step ∷ done) ≡ place-on 1
+  place-stepped : placeAfter signal (Call.step ∷ done) ≡ place-on 1
   unfolding lastSought handedOutSince place-on
-  place-stepped = ap (λ (n : ℕ). n % w) (sym (add-assoc (lastSought w done) (handedOutSince w done) 1))
+  place-stepped = ap (λ (n : ℕ). n % weekOf signal) (sym (add-assoc (lastSought signal done) (handedOutSince signal done) 1))
 
   place-windowed : (count : ℕ) (buffer : List ℕ) (at : ℕ)
-      → placeAfter w (Call.window count buffer at ∷ done) ≡ place-on (handsOut w (Call.window count buffer at))
+      → placeAfter signal (Call.window count buffer at ∷ done) ≡ place-on (handsOut signal (Call.window count buffer at))
   unfolding lastSought handedOutSince place-on
   place-windowed count buffer at =
-      ap (λ (n : ℕ). n % w) (sym (add-assoc (lastSought w done) (handedOutSince w done) (handsOut w (Call.window count buffer at))))
+      ap (λ (n : ℕ). n % weekOf signal) (sym (add-assoc (lastSought signal done) (handedOutSince signal done) (handsOut signal (Call.window count buffer at))))
 
 -- ---- one call of a channel that stands where the stepped machine stands after the calls before
 
@@ -67,19 +67,19 @@ module _ (signal prn : ℕ) where
   chips-there n p = chips-round signal prn n p
 
   -- n steps on from the place after the calls before
-  steps-on : (done : List Call) (n : ℕ) → advance n (machineAt (placeAfter (weekOf signal) done)) ≡ machineAt (place-on (weekOf signal) done n)
+  steps-on : (done : List Call) (n : ℕ) → advance n (machineAt (placeAfter signal done)) ≡ machineAt (place-on signal done n)
   unfolding place-on
   steps-on done n =
-      let so-far : ℕ = lastSought (weekOf signal) done + handedOutSince (weekOf signal) done in
+      let so-far : ℕ = lastSought signal done + handedOutSince signal done in
       ap (advance n) (sym (weeks-pass signal prn so-far)) ∙ sym (advance-add so-far n (opened signal prn)) ∙ weeks-pass signal prn (so-far + n)
 
   -- what a call's reply has to be, the calls before it given
   pub record Right (done : List Call) (c : Call) (r : Reply) : Type 0 where
-    pub refused-is : r .refused ≡ refusalOf (weekOf signal) c
+    pub refused-is : r .refused ≡ refusalOf signal c
     pub leaps-are : r .leaps ≡ tells signal prn c
-    pub chips-are : r .chips ≡ chips (handsOut (weekOf signal) c) (machineAt (placeAfter (weekOf signal) done))
-    pub buffers-are : r .buffers ≡ leaves signal prn (placeAfter (weekOf signal) done) c
-    pub channel-is : r .channel ≡ machineAt (placeAfter (weekOf signal) (c ∷ done))
+    pub chips-are : r .chips ≡ chips (handsOut signal c) (machineAt (placeAfter signal done))
+    pub buffers-are : r .buffers ≡ leaves signal prn (placeAfter signal done) c
+    pub channel-is : r .channel ≡ machineAt (placeAfter signal (c ∷ done))
 
   module _ (is-signal : isSignal signal ≡ true) (is-prn : isPrn prn ≡ true) where
     machine-in : (p : ℕ) → inRange (machineAt p) ≡ true
@@ -87,7 +87,7 @@ module _ (signal prn : ℕ) where
 
     module _ (done : List Call) where
       abbrev p : ℕ
-      p = placeAfter (weekOf signal) done
+      p = placeAfter signal done
 
       seek-in : (place : ℕ) → place < weekOf signal → Right done (Call.seek place) (seekReply (machineAt p) place)
       unfolding chips
@@ -99,7 +99,7 @@ module _ (signal prn : ℕ) where
             leaps-are = simp yes;
             chips-are = simp yes;
             buffers-are = refl;
-            channel-is = ap machineAt (sym (place-sought (weekOf signal) done place h));
+            channel-is = ap machineAt (sym (place-sought signal done place h));
           })
 
       seek-out : (place : ℕ) → weekOf signal ≤ place → Right done (Call.seek place) (seekReply (machineAt p) place)
@@ -113,7 +113,7 @@ module _ (signal prn : ℕ) where
             leaps-are = simp no-place;
             chips-are = simp no-place;
             buffers-are = refl;
-            channel-is = ap machineAt (sym (place-not-sought (weekOf signal) done place h));
+            channel-is = ap machineAt (sym (place-not-sought signal done place h));
           })
 
       stepped : Right done Call.step (stepReply (machineAt p))
@@ -124,7 +124,7 @@ module _ (signal prn : ℕ) where
             leaps-are = refl;
             chips-are = sym (chips-one (machineAt p));
             buffers-are = refl;
-            channel-is = advance-last p (opened signal prn) ∙ sym (advance-one (machineAt p)) ∙ steps-on done 1 ∙ ap machineAt (sym (place-stepped (weekOf signal) done));
+            channel-is = advance-last p (opened signal prn) ∙ sym (advance-one (machineAt p)) ∙ steps-on done 1 ∙ ap machineAt (sym (place-stepped signal done));
           })
 
       module _ (count : ℕ) (buffer : List ℕ) (at : ℕ) where
@@ -133,10 +133,10 @@ module _ (signal prn : ℕ) where
 
         -- refused with a number, it stays where it was
         refused : (n : ℕ) → eqb n 0 ≡ false → windowReply (machineAt p) count buffer at ≡ unwrittenWith n buffer (machineAt p)
-            → refusalOf (weekOf signal) c ≡ n → Right done c (windowReply (machineAt p) count buffer at)
+            → refusalOf signal c ≡ n → Right done c (windowReply (machineAt p) count buffer at)
         unfolding chips
         refused n some reply number =
-            let nothing : handsOut (weekOf signal) c ≡ 0 = simp (number, some) in
+            let nothing : handsOut signal c ≡ 0 = simp (number, some) in
             subst (Right done c) (sym reply)
             (record {
               refused-is = sym number;
@@ -146,14 +146,14 @@ module _ (signal prn : ℕ) where
               channel-is =
                   sym (advance-none (machineAt p))
                   ∙ ap (λ (m : ℕ). advance m (machineAt p)) (sym nothing)
-                  ∙ steps-on done (handsOut (weekOf signal) c)
-                  ∙ ap machineAt (sym (place-windowed (weekOf signal) done count buffer at));
+                  ∙ steps-on done (handsOut signal c)
+                  ∙ ap machineAt (sym (place-windowed signal done count buffer at));
             })
 
-        window-in : count ≤ 65536 → at + count ≤ length buffer → Right done c (windowReply (machineAt p) count buffer at)
+        window-in : count ≤ mostChips → at + count ≤ length buffer → Right done c (windowReply (machineAt p) count buffer at)
         window-in few room =
-            let number : refusalOf (weekOf signal) c ≡ 0 = simp (le-leb count 65536 few, le-leb (at + count) (length buffer) room) in
-            let whole : handsOut (weekOf signal) c ≡ count = simp number in
+            let number : refusalOf signal c ≡ 0 = simp (le-leb count mostChips few, le-leb (at + count) (length buffer) room) in
+            let whole : handsOut signal c ≡ count = simp number in
             subst (Right done c) (sym (window-accepted (machineAt p) count buffer at (machine-in p) few room))
             (record {
               refused-is = sym number;
@@ -162,21 +162,21 @@ module _ (signal prn : ℕ) where
               buffers-are = simp number (ap (λ (bytes : List ℕ). written at bytes buffer ∷ []) (chips-there count p));
               channel-is =
                   steps-on done count
-                  ∙ ap (λ (n : ℕ). machineAt (place-on (weekOf signal) done n)) (sym whole)
-                  ∙ ap machineAt (sym (place-windowed (weekOf signal) done count buffer at));
+                  ∙ ap (λ (n : ℕ). machineAt (place-on signal done n)) (sym whole)
+                  ∙ ap machineAt (sym (place-windowed signal done count buffer at));
             })
 
         windowed : Right done c (windowReply (machineAt p) count buffer at)
-        windowed = by (leb count 65536) refl (leb (at + count) (length buffer)) refl
+        windowed = by (leb count mostChips) refl (leb (at + count) (length buffer)) refl
           where
-            by : (t : Bool) → leb count 65536 ≡ t → (u : Bool) → leb (at + count) (length buffer) ≡ u
+            by : (t : Bool) → leb count mostChips ≡ t → (u : Bool) → leb (at + count) (length buffer) ≡ u
                 → Right done c (windowReply (machineAt p) count buffer at)
-            by true t true u = window-in (leb-true count 65536 t) (leb-true (at + count) (length buffer) u)
+            by true t true u = window-in (leb-true count mostChips t) (leb-true (at + count) (length buffer) u)
             by true t false u =
-                refused 6 refl (window-no-room (machineAt p) count buffer at (machine-in p) (leb-true count 65536 t) (leb-false (at + count) (length buffer) u))
+                refused 6 refl (window-no-room (machineAt p) count buffer at (machine-in p) (leb-true count mostChips t) (leb-false (at + count) (length buffer) u))
                 (simp (t, u))
             by false t u′ u =
-                refused 5 refl (window-too-many (machineAt p) count buffer at (machine-in p) (leb-false count 65536 t)) (simp t)
+                refused 5 refl (window-too-many (machineAt p) count buffer at (machine-in p) (leb-false count mostChips t)) (simp t)
 
       pub call-right : (c : Call) → Right done c (replyTo (machineAt p) c)
       call-right (Call.seek place) = by (ltb place (weekOf signal)) refl

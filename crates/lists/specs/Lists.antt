@@ -12,7 +12,7 @@ use Rattle.machine.specs.Machine.{opened, advance, chip}
 use Rattle.machine.specs.declared.Channel.{Channel}
 use Rattle.standard.specs.Standard.{standard}
 use Rattle.seeks.specs.Leaps.{leapsTo}
-use Rattle.engine.specs.Replies.{Reply, seekReply, stepReply, windowReply, written}
+use Rattle.engine.specs.Replies.{openReply, channel, Reply, seekReply, stepReply, mostChips, windowReply, written}
 
 -- ---- a list of calls, and what they answer
 
@@ -40,16 +40,16 @@ unfoldable pub handedBack : Channel → List Call → Channel
 handedBack ch [] = ch
 handedBack ch (c ∷ cs) = handedBack (replyTo ch c .channel) cs
 
--- ---- one call, by its arguments alone; w is W, the week of the signal
+-- ---- one call, by the signal and its arguments alone
 
 -- the number of its refusal, 0 where it is accepted. No call of a list meets refusal 4.
 abbrev pub refusalOf : ℕ → Call → ℕ
-refusalOf w (seek place) = cond (ltb place w) 0 3
-refusalOf w step = 0
-refusalOf w (window count buffer at) = cond (leb count 65536) (cond (leb (at + count) (length buffer)) 0 6) 5
+refusalOf signal (seek place) = cond (ltb place (weekOf signal)) 0 3
+refusalOf signal step = 0
+refusalOf signal (window count buffer at) = cond (leb count mostChips) (cond (leb (at + count) (length buffer)) 0 6) 5
 
 abbrev pub accepted : ℕ → Call → Bool
-accepted w c = eqb (refusalOf w c) 0
+accepted signal c = eqb (refusalOf signal c) 0
 
 -- the chips that it asks for: a step's one, a window's count
 abbrev pub asked : Call → ℕ
@@ -59,39 +59,39 @@ asked (window count buffer at) = count
 
 -- how many chips it hands out: "Seeks and refused calls hand out none."
 abbrev pub handsOut : ℕ → Call → ℕ
-handsOut w c = cond (accepted w c) (asked c) 0
+handsOut signal c = cond (accepted signal c) (asked c) 0
 
 -- ---- the place, by the calls so far, THE LATEST FIRST
 
 -- that of the last accepted seek, or 0
 unfoldable pub lastSought : ℕ → List Call → ℕ
-lastSought w [] = 0
-lastSought w (seek place ∷ earlier) = cond (accepted w (seek place)) place (lastSought w earlier)
-lastSought w (step ∷ earlier) = lastSought w earlier
-lastSought w (window count buffer at ∷ earlier) = lastSought w earlier
+lastSought signal [] = 0
+lastSought signal (seek place ∷ earlier) = cond (accepted signal (seek place)) place (lastSought signal earlier)
+lastSought signal (step ∷ earlier) = lastSought signal earlier
+lastSought signal (window count buffer at ∷ earlier) = lastSought signal earlier
 
 -- how many chips were handed out since, or from the start
 unfoldable pub handedOutSince : ℕ → List Call → ℕ
-handedOutSince w [] = 0
-handedOutSince w (seek place ∷ earlier) = cond (accepted w (seek place)) 0 (handedOutSince w earlier)
-handedOutSince w (step ∷ earlier) = handedOutSince w earlier + handsOut w step
-handedOutSince w (window count buffer at ∷ earlier) = handedOutSince w earlier + handsOut w (window count buffer at)
+handedOutSince signal [] = 0
+handedOutSince signal (seek place ∷ earlier) = cond (accepted signal (seek place)) 0 (handedOutSince signal earlier)
+handedOutSince signal (step ∷ earlier) = handedOutSince signal earlier + handsOut signal step
+handedOutSince signal (window count buffer at ∷ earlier) = handedOutSince signal earlier + handsOut signal (window count buffer at)
 
 -- the one plus the other, modulo W
 abbrev pub placeAfter : ℕ → List Call → ℕ
-placeAfter w done = (lastSought w done + handedOutSince w done) % w
+placeAfter signal done = (lastSought signal done + handedOutSince signal done) % weekOf signal
 
 -- What each call gives, in order, given the place where it begins. `done` are the calls before, the latest first.
 unfoldable pub along : {A : Type 0} → ℕ → (ℕ → Call → List A) → List Call → List Call → List A
-along w gives done [] = []
-along w gives done (c ∷ cs) = gives (placeAfter w done) c ++ along w gives (c ∷ done) cs
+along signal gives done [] = []
+along signal gives done (c ∷ cs) = gives (placeAfter signal done) c ++ along signal gives (c ∷ done) cs
 
 -- ---- places and chips
 
 -- the places that a call passes, beginning at p: "for each accepted step or window, the place where it begins and the ones following, round the week, one
 -- for each chip"
 abbrev pub passes : ℕ → ℕ → Call → List ℕ
-passes w p c = placesFrom w p (handsOut w c)
+passes signal p c = placesFrom (weekOf signal) p (handsOut signal c)
 
 -- the chip of the stepped machine at a place
 unfoldable pub machineChip : ℕ → ℕ → ℕ → ℕ
@@ -104,36 +104,40 @@ abbrev pub leaves : ℕ → ℕ → ℕ → Call → List (List ℕ)
 leaves signal prn p (seek place) = []
 leaves signal prn p step = []
 leaves signal prn p (window count buffer at) =
-    cond (accepted (weekOf signal) (window count buffer at))
+    cond (accepted signal (window count buffer at))
     (written at (map (machineChip signal prn) (placesFrom (weekOf signal) p count)) buffer)
     buffer
     ∷ []
 
 -- the leaps of an accepted seek, by document 01's rule
 abbrev pub tells : ℕ → ℕ → Call → List ℕ
-tells signal prn (seek place) = cond (accepted (weekOf signal) (seek place)) (leapsTo signal prn place ∷ []) []
+tells signal prn (seek place) = cond (accepted signal (seek place)) (leapsTo signal prn place ∷ []) []
 tells signal prn step = []
 tells signal prn (window count buffer at) = []
 
 -- ---- the statement
 
--- A list of calls from the channel ch, which an accepted open of the signal and PRN gave.
-pub record EveryList (signal prn : ℕ) (ch : Channel) (calls : List Call) : Type 0 where
+-- A list of calls from the channel ch.
+pub record ListOfCalls (signal prn : ℕ) (ch : Channel) (calls : List Call) : Type 0 where
   -- the place: that of the last accepted seek, or 0, plus the chips handed out since, modulo W
-  pub place : handedBack ch calls .place ≡ (lastSought (weekOf signal) (reverse calls) + handedOutSince (weekOf signal) (reverse calls)) % weekOf signal
+  pub place : handedBack ch calls .place ≡ (lastSought signal (reverse calls) + handedOutSince signal (reverse calls)) % weekOf signal
   -- every field: those of the stepped machine at that place
-  pub fields : handedBack ch calls ≡ advance (placeAfter (weekOf signal) (reverse calls)) (opened signal prn)
+  pub fields : handedBack ch calls ≡ advance (placeAfter signal (reverse calls)) (opened signal prn)
   -- all chips handed out, in order: the machine's at the places passed
-  pub chips : flatMap (λ (r : Reply). r .chips) (replies ch calls) ≡ map (machineChip signal prn) (along (weekOf signal) (passes (weekOf signal)) [] calls)
+  pub chips : flatMap (λ (r : Reply). r .chips) (replies ch calls) ≡ map (machineChip signal prn) (along signal (passes signal) [] calls)
   -- and those of IS-GPS-200 and IS-GPS-705 there
-  pub standards : flatMap (λ (r : Reply). r .chips) (replies ch calls) ≡ map (standard signal prn) (along (weekOf signal) (passes (weekOf signal)) [] calls)
+  pub standards : flatMap (λ (r : Reply). r .chips) (replies ch calls) ≡ map (standard signal prn) (along signal (passes signal) [] calls)
   -- how many chips each call hands out: an accepted step one, an accepted window its count, any other call none
-  pub counts : map (λ (r : Reply). length (r .chips)) (replies ch calls) ≡ map (handsOut (weekOf signal)) calls
+  pub counts : map (λ (r : Reply). length (r .chips)) (replies ch calls) ≡ map (handsOut signal) calls
   -- the number of each call, 0 where it is accepted
-  pub refusals : map (λ (r : Reply). r .refused) (replies ch calls) ≡ map (refusalOf (weekOf signal)) calls
+  pub refusals : map (λ (r : Reply). r .refused) (replies ch calls) ≡ map (refusalOf signal) calls
   -- each window's buffer after its call, whole
-  pub buffers : flatMap (λ (r : Reply). r .buffers) (replies ch calls) ≡ along (weekOf signal) (leaves signal prn) [] calls
+  pub buffers : flatMap (λ (r : Reply). r .buffers) (replies ch calls) ≡ along signal (leaves signal prn) [] calls
   -- the leaps of each accepted seek, by the rule
   pub leaps : flatMap (λ (r : Reply). r .leaps) (replies ch calls) ≡ flatMap (tells signal prn) calls
   -- whichever of them: at most 44
   pub few : (i : ℕ) → getD (flatMap (λ (r : Reply). r .leaps) (replies ch calls)) i 0 ≤ 44
+
+-- "A list starts from the channel that an accepted open gives, whatever its signal and PRN; the machine it is compared with has the same two."
+abbrev pub EveryList : Type 0
+EveryList = (signal prn : ℕ) (ch : Channel) → openReply signal prn ≡ channel ch → (calls : List Call) → ListOfCalls signal prn ch calls
