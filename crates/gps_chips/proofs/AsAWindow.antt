@@ -16,7 +16,7 @@ use Rattle.engine.specs.Replies.{mostChips, openReply, channel, Reply, seekRepl
 use Rattle.engine.proofs.Calls.{open-accepted, seeks-accepted}
 use Rattle.engine.proofs.Windows.{window-accepted}
 use Rattle.gps_chips.specs.Chips.{chipsBuffer, byTheMachine}
-use Rattle.gps_chips.proofs.Answers.{accepted}
+use Rattle.gps_chips.proofs.Answers.{fits}
 
 -- bytes as many as the buffer has, written to its front, are all of it
 written-whole : (bytes buffer : List ℕ) → length bytes ≡ length buffer → written 0 bytes buffer ≡ bytes
@@ -33,6 +33,7 @@ as-a-window signal prn place buffer ch e within short =
     ap (λ (x : Channel). seekReply x place .channel) (o .2 ∙ sym (advance-none (opened signal prn)))
     ∙ ap (λ (r : Reply). r .channel) (seeks-accepted signal prn (o .0) (o .1) 0 place within)
     in
-    rw (sought, accepted signal prn place buffer (o .0) (o .1) within short)
+    let none = sym (fits signal prn place (length buffer) (record { is-signal = o .0; is-prn = o .1; within = within; short = short })) in
+    rw (sought, none)
     (ap (λ (r : Reply). r .buffers) (window-accepted there (length buffer) buffer 0 (reached-in signal prn place (o .0) (o .1)) short (omega arith))
     ∙ ap (λ (l : List ℕ). l ∷ []) (written-whole (chips (length buffer) there) buffer (chips-length (length buffer) there)))
