@@ -103,7 +103,7 @@ writtenWith chips after ch = record { refused = 0; leaps = []; chips = chips; bu
 abbrev pub unwrittenWith : ℕ → List ℕ → Channel → Reply
 unwrittenWith n after ch = record { refused = n; leaps = []; chips = []; buffers = after ∷ []; channel = ch }
 
--- What each case of the answer says, given count, at and the buffer after the call. "Chips handed out are .., in the order of the buffer, the count bytes
+-- What each case of the answer says, given count, at and the buffer after the call. "Chips handed out are .. in the order of the buffer, the count bytes
 -- from `at` onward that an accepted window wrote."
 abbrev pub ofWindowed : ℕ → ℕ → List ℕ → Windowed → Reply
 ofWindowed count at after (windows.Written ch) = writtenWith (take count (drop at after)) after ch
@@ -111,7 +111,7 @@ ofWindowed count at after (windows.OutOfRange ch) = unwrittenWith 4 after ch
 ofWindowed count at after (windows.TooMany ch) = unwrittenWith 5 after ch
 ofWindowed count at after (windows.NoRoom ch) = unwrittenWith 6 after ch
 
--- a buffer with bytes written from `at` onward: "every byte but those .. stays"
+-- a buffer with bytes written from `at` onward: "every byte but those count stays"
 abbrev pub written : ℕ → List ℕ → List ℕ → List ℕ
 written at bytes buffer = take at buffer ++ (bytes ++ drop (at + length bytes) buffer)
 

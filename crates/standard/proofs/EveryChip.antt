@@ -2,7 +2,7 @@
 --     every-chip    after any number n of steps from the opened channel, the machine's chip is the standards' chip at n modulo W
 --     every-window  and so are the chips of any number of steps from there on, round the week
 -- `standard` is the chip as the standards write it (`specs/Standard.antt`); `opened`, `advance` and `chip` are the stepped machine of document 01
--- (`machine/specs/Machine.antt`). That seek and step hand out these chips is said by their contracts; `engine/proofs/Calls.antt` puts the two together.
+-- (`machine/specs/Machine.antt`). That the calls hand out these chips is said by their contracts and, of whole lists of calls, by `lists/specs/Lists.antt`.
 -- Assumes nothing.
 use mathlib.Core.List.{List, _∷_, map}
 use mathlib.Core.Path.{_≡_, refl, ap, ap₂, _∙_}
