@@ -17,15 +17,17 @@ is-signal-requires c κs = search needs
 
 returns : tie.Need-returns
 returns c =
-    no-signal _ _ _ _ (sym (c .before .is-signal .ensures) ∙ not-true _ (c .if1 .taken))
+    let a = c .before .before .args in
+    no-signal (a .signal) (a .prn) (a .place) (a .bytes) (sym (c .before .is-signal .ensures) ∙ not-true _ (c .if1 .taken))
 
 is-prn-requires : tie.Need-is-prn-requires
 is-prn-requires c κs = search needs
 
 returns-2 : tie.Need-returns-2
 returns-2 c =
-    let s : isSignal (c .before .before .before .before .args .signal) ≡ true = sym (c .before .before .before .is-signal .ensures) ∙ not-false _ (c .before .before .if1 .left) in
-    no-prn _ _ _ _ s (sym (c .before .is-prn .ensures) ∙ not-true _ (c .if2 .taken))
+    let a = c .before .before .before .before .args in
+    let s : isSignal (a .signal) ≡ true = sym (c .before .before .before .is-signal .ensures) ∙ not-false _ (c .before .before .if1 .left) in
+    no-prn (a .signal) (a .prn) (a .place) (a .bytes) s (sym (c .before .is-prn .ensures) ∙ not-true _ (c .if2 .taken))
 
 cast-week-of : tie.Need-cast-week-of
 cast-week-of c =
@@ -44,19 +46,19 @@ returns-3 c =
     let a = c .before .before .before .before .before .before .args in
     let s : isSignal (a .signal) ≡ true = sym (c .before .before .before .before .before .is-signal .ensures) ∙ not-false _ (c .before .before .before .before .if1 .left) in
     let p : isPrn (a .prn) ≡ true = sym (c .before .before .before .is-prn .ensures) ∙ not-false _ (c .before .before .if2 .left) in
-    no-place _ _ _ _ s p (subst (λ (w : ℕ). w ≤ a .place) (c .before .week-of .ensures) (c .if3 .taken))
+    no-place (a .signal) (a .prn) (a .place) (a .bytes) s p (subst (λ (w : ℕ). w ≤ a .place) (c .before .week-of .ensures) (c .if3 .taken))
 
 returns-4 : tie.Need-returns-4
 returns-4 c =
     let a = c .before .before .before .before .before .before .before .args in
     let s : isSignal (a .signal) ≡ true = sym (c .before .before .before .before .before .before .is-signal .ensures) ∙ not-false _ (c .before .before .before .before .before .if1 .left) in
     let p : isPrn (a .prn) ≡ true = sym (c .before .before .before .before .is-prn .ensures) ∙ not-false _ (c .before .before .before .if2 .left) in
-    too-long _ _ _ _ s p (subst (λ (w : ℕ). a .place < w) (c .before .before .week-of .ensures) (c .before .if3 .left)) (c .if4 .taken)
+    too-long (a .signal) (a .prn) (a .place) (a .bytes) s p (subst (λ (w : ℕ). a .place < w) (c .before .before .week-of .ensures) (c .before .if3 .left)) (c .if4 .taken)
 
 returns-5 : tie.Need-returns-5
 returns-5 c =
     let a = c .before .before .before .before .before .before .before .args in
-    fits _ _ _ _
+    fits (a .signal) (a .prn) (a .place) (a .bytes)
     (record {
       is-signal = sym (c .before .before .before .before .before .before .is-signal .ensures) ∙ not-false _ (c .before .before .before .before .before .if1 .left);
       is-prn = sym (c .before .before .before .before .is-prn .ensures) ∙ not-false _ (c .before .before .before .if2 .left);
