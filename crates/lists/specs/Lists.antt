@@ -1,5 +1,5 @@
--- DEMAND 3. What holds of every list of calls: document 01, "Lists of calls". `EveryList`, at the end, is the statement, one about the whole list; each of
--- its right sides is made of the signal, the PRN and the arguments of the calls alone. `proofs/EveryList.antt` proves it.
+-- DEMAND 3. What holds of every list of calls: document 01, "Lists of calls". `ListOfCalls`, at the end, is one statement about a whole list, each of its right
+-- sides made of the signal, the PRN and the arguments of the calls alone; `EveryList` says it of every list. `proofs/EveryList.antt` proves it.
 -- Assumes nothing.
 use Prim.Native.Nat.{ℕ, _+_, _%_, _≤_}
 use mathlib.Core.Bool.{Bool, cond}
