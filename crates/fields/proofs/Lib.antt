@@ -1,0 +1,2 @@
+-- The proofs of the fields of a line.
+pub mod Bytes

@@ -1,0 +1,118 @@
+-- Bytes written to a buffer from a place on.
+--     written-none, written-one    no byte, and one
+--     written-start                from the buffer's start
+--     written-length               the buffer stays as long
+--     written-behind               behind a list that stands before what the buffer had
+--     written-join                 more bytes behind those written
+--     byte-more, chip-more         one byte behind them, and one chip as text
+--     part-from                    the part of a slice from a place on
+--     Begins                       a list stands at the buffer's start: none, more bytes written behind it, one byte, and the length
+--     Room                         the same, with a bound of its length
+-- Assumes nothing.
+use Prim.Native.Nat.{ℕ, suc, _+_, _-_, _≤_, _<_}
+use mathlib.Core.List.{List, [], _∷_, _++_, map, map-append, append-assoc}
+use mathlib.Core.Path.{_≡_, refl, sym, ap, _∙_}
+use native.Mathlib.Numerals.{add-one}
+use native.Mathlib.Nat.{zero-add, add-zero, add-assoc}
+use native.Mathlib.Omega.{arith}
+use lib.ListN.{length, take, drop, getD, set, take-append-drop, length-append, length-drop, length-map}
+use lib.Seq.{set-split, take-all, take-at, drop-at, drop-drop, length-take-le, take-suc}
+use Rattle.engine.specs.Replies.{written}
+use Rattle.lines.specs.Lines.{chipDigit}
+
+pub written-none : (n : ℕ) (l : List ℕ) → l ≡ written n [] l
+written-none n l = rw (add-zero n) (sym (take-append-drop n l))
+
+pub written-one : (n b : ℕ) (l : List ℕ) → n < length l → set l n b ≡ written n (b ∷ []) l
+written-one n b l h = rw (add-one n) (set-split l n b h)
+
+pub written-start : (x l : List ℕ) → written 0 x l ≡ x ++ drop (length x) l
+written-start x l = rw (zero-add (length x))
+
+-- a list x before what is left of the old buffer, and y written behind x
+pub written-behind : (x y old : List ℕ) (n : ℕ) → length x ≡ n → written n y (x ++ drop n old) ≡ (x ++ y) ++ drop (n + length y) old
+written-behind x y old n long =
+    let front : take n (x ++ drop n old) ≡ x = take-at x (drop n old) n long in
+    let back : drop (n + length y) (x ++ drop n old) ≡ drop (n + length y) old
+    = sym (drop-drop (length y) n (x ++ drop n old)) ∙ ap (drop (length y)) (drop-at x (drop n old) n long) ∙ drop-drop (length y) n old
+    in
+    rw (front, back) (sym (append-assoc x y (drop (n + length y) old)))
+
+pub written-length : (n : ℕ) (x l : List ℕ) → n + length x ≤ length l → length (written n x l) ≡ length l
+written-length n x l h = simp (length-append, length-drop, length-take-le n l (omega arith)) (omega arith)
+
+pub written-join : (n : ℕ) (x y l : List ℕ) → n ≤ length l → written (n + length x) y (written n x l) ≡ written n (x ++ y) l
+written-join n x y l h =
+    let front : length (take n l ++ x) ≡ n + length x = rw (length-append (take n l) x, length-take-le n l h) refl in
+    ap (written (n + length x) y) (sym (append-assoc (take n l) x (drop (n + length x) l)))
+    ∙ written-behind (take n l ++ x) y l (n + length x) front
+    ∙ rw (length-append x y, append-assoc x y (drop (n + (length x + length y)) l), sym (add-assoc n (length x) (length y)))
+    (append-assoc (take n l ++ x) y (drop (n + length x + length y) l) ∙ append-assoc (take n l) x (y ++ drop (n + length x + length y) l))
+
+-- one byte more
+pub byte-more : (n : ℕ) (x old : List ℕ) (b : ℕ) → n + length x < length old → set (written n x old) (n + length x) b ≡ written n (x ++ (b ∷ [])) old
+byte-more n x old b h =
+    let there : n + length x < length (written n x old) = rw (written-length n x old (omega arith)) h in
+    written-one (n + length x) b (written n x old) there ∙ written-join n x (b ∷ []) old (omega arith)
+
+-- one chip more, as text
+pub chip-more : (chips old : List ℕ) (n i : ℕ) → i < length chips → n + length chips ≤ length old
+    → set (written n (map chipDigit (take i chips)) old) (n + i) (chipDigit (getD chips i 0)) ≡ written n (map chipDigit (take (i + 1) chips)) old
+chip-more chips old n i h room =
+    let x = map chipDigit (take i chips) in
+    let b = chipDigit (getD chips i 0) in
+    let long : length x ≡ i = length-map (take i chips) chipDigit ∙ length-take-le i chips (omega arith) in
+    let more : x ++ (b ∷ []) ≡ map chipDigit (take (i + 1) chips)
+    = rw (add-one i, take-suc chips i 0 h, map-append chipDigit (take i chips) (getD chips i 0 ∷ [])) refl
+    in
+    ap (λ (k : ℕ). set (written n x old) (n + k) b) (sym long)
+    ∙ byte-more n x old b (omega (arith, long))
+    ∙ ap (λ (y : List ℕ). written n y old) more
+
+-- the part of a slice from a place on
+pub part-from : (l : List ℕ) (n : ℕ) → take (length l - n) (drop n l) ≡ drop n l
+part-from l n = take-all (length l - n) (drop n l) (rw (length-drop n l) (omega arith))
+
+-- ---- a list that stands at a buffer's start, before what the buffer had
+
+pub record Begins (x old new : List ℕ) (n : ℕ) : Type 0 where
+  pub long : n ≡ length x
+  pub is : new ≡ x ++ drop n old
+
+pub begins-none : (old : List ℕ) → Begins [] old old 0
+begins-none old = record { long = refl; is = refl }
+
+pub begins-more : (x y old new after : List ℕ) (n m : ℕ) → Begins x old new n → m ≡ n + length y → after ≡ written n y new → Begins (x ++ y) old after m
+begins-more x y old new after n m b end wrote =
+    record {
+      long = end ∙ rw (length-append x y) (ap (λ (k : ℕ). k + length y) (b .long));
+      is = wrote ∙ ap (written n y) (b .is) ∙ written-behind x y old n (sym (b .long)) ∙ ap (λ (k : ℕ). (x ++ y) ++ drop k old) (sym end);
+    }
+
+pub begins-byte : (x old new : List ℕ) (n b : ℕ) → Begins x old new n → n < length new → Begins (x ++ (b ∷ [])) old (set new n b) (n + 1)
+begins-byte x old new n b begins h = begins-more x (b ∷ []) old new (set new n b) n (n + 1) begins refl (written-one n b new h)
+
+pub begins-length : (x old new : List ℕ) (n : ℕ) → Begins x old new n → n ≤ length old → length new ≡ length old
+begins-length x old new n b h = ap length (b .is) ∙ simp (length-append, length-drop) (omega (arith, b .long))
+
+-- a buffer that stays as long has room for the list
+pub begins-fits : (x old new : List ℕ) (n : ℕ) → Begins x old new n → length new ≡ length old → n ≤ length old
+begins-fits x old new n b same =
+    let whole : length new ≡ length x + (length old - n) = ap length (b .is) ∙ simp (length-append, length-drop) in
+    omega (arith, whole, same, b .long)
+
+-- the same, with a bound of the list's length
+pub record Room (x old new : List ℕ) (n most : ℕ) : Type 0 where
+  pub begins : Begins x old new n
+  pub few : n ≤ most
+  pub same : length new ≡ length old
+
+pub room-none : (old : List ℕ) → Room [] old old 0 0
+room-none old = record { begins = begins-none old; few = omega arith; same = refl }
+
+pub room-more : (x y old new after : List ℕ) (n m most more : ℕ) → Room x old new n most → m ≡ n + length y → after ≡ written n y new → length y ≤ more
+    → most + more ≤ length old → Room (x ++ y) old after m (most + more)
+room-more x y old new after n m most more r end wrote short fits =
+    let b = begins-more x y old new after n m (r .begins) end wrote in
+    let few : m ≤ most + more = omega (arith, r .few) in
+    record { begins = b; few = few; same = begins-length (x ++ y) old after m b (omega arith) }

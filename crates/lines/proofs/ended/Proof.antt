@@ -1,0 +1,99 @@
+use Rattle.lines.proofs.Streams.{held-again}
+use Rattle.lines.proofs.Written.{begins-fits}
+use Rattle.lines.specs.Stream.{held}
+use Rattle.lines.specs.Lines.{lineReply}
+use Rattle.runs.proofs.ChipsSoFar.{put-back}
+use lib.Seq.{length-take-le}
+use lib.ListN.{length, take, drop, length-take, length-drop}
+use Prim.Native.Nat.{ℕ, _+_, _-_, _≤_}
+use mathlib.Core.Path.{_≡_, refl, sym, ap, _∙_}
+use mathlib.Core.List.{List, _++_}
+use native.Mathlib.Omega.{arith}
+use borrow.Author.Needs.{needs}
+use Rattle.lines.proofs.ended.Statement.{statement}
+use Rattle.lines.proofs.ended.Tie as tie
+use Rattle.lines.proofs.ended.Reads as reads
+use Rattle.lines.proofs.ended.Lts as lts
+use Rattle.lines.proofs.held_length.Reads as held-length-reads
+use Rattle.lines.proofs.reply.Reads as reply-reads
+
+-- src/lib.rt:204:28
+held-length-requires : tie.Need-held-length-requires
+held-length-requires c κs = search needs
+
+-- src/lib.rt:204:19
+array-share-prefix-bytes : tie.Need-array-share-prefix-bytes
+array-share-prefix-bytes c =
+    let s = c .before .before .before .args .s in
+    omega (arith, c .held-length .ensures, length-take (s .len) (s .bytes))
+
+-- src/lib.rt:204:19
+slice-aggregate-reply : tie.Need-slice-aggregate-reply
+slice-aggregate-reply c =
+    let s = c .before .before .before .before .args .s in
+    sym (length-take-le (c .before .held-length .result) (s .bytes) (omega (arith, c .before .held-length .ensures, length-take (s .len) (s .bytes))))
+
+-- src/lib.rt:204:45
+sub-reply : tie.Need-sub-reply
+sub-reply c = search needs
+
+-- src/lib.rt:204:45
+part-reply-start : tie.Need-part-reply-start
+part-reply-start c = search needs
+
+-- src/lib.rt:204:45
+part-reply-end : tie.Need-part-reply-end
+part-reply-end c = search needs
+
+-- src/lib.rt:204:9
+reply-requires : tie.Need-reply-requires
+reply-requires c κs = search needs
+
+-- src/lib.rt:205:5
+add-result : tie.Need-add-result
+add-result c =
+    let a = c .before .before .before .before .before .before .before .before .args in
+    let old = a .out .now in
+    let w = c .before .before .reply in
+    let part = take (length old - a .n) (drop (a .n) old) in
+    let same : length (w .last .1 .0) ≡ length part = search needs in
+    let fits : w .result ≤ length part = begins-fits (lineReply (take (c .before .before .before .before .before .held-length .result) (a .s .bytes))) part (w .last .1 .0) (w .result) (record { long = w .ensures .0; is = w .ensures .1 }) same in
+    let room : length part ≤ length old - a .n = omega (arith, length-take (length old - a .n) (drop (a .n) old)) in
+    omega (arith, fits, room)
+
+-- src/lib.rt:198:1
+same-length : tie.Need-same-length
+same-length c = search needs
+
+-- src/lib.rt:198:1
+returns : tie.Need-returns
+returns c =
+    let a = c .before .before .before .before .before .before .before .before .args in
+    let s = a .s in
+    let old = a .out .now in
+    let n = a .n in
+    let k = c .before .before .before .before .before .held-length in
+    let w = c .before .before .reply in
+    let line : take (k .result) (s .bytes) ≡ held s = ap (λ (m : ℕ). take m (s .bytes)) (k .ensures) ∙ held-again (s .len) (s .bytes) in
+    let said = lineReply (held s) in
+    let long : w .result ≡ length said = w .ensures .0 ∙ ap (λ (l : List ℕ). length (lineReply l)) line in
+    let part = take (length old - n) (drop n old) in
+    let new : w .last .1 .0 ≡ said ++ drop (length said) part
+    = w .ensures .1 ∙ ap (λ (l : List ℕ). lineReply l ++ drop (w .result) part) line ∙ ap (λ (m : ℕ). said ++ drop m part) long
+    in
+    (ap (λ (m : ℕ). n + m) long, ap (λ (x : List ℕ). take n old ++ (x ++ drop (length old - n) (drop n old))) new ∙ put-back said (length said) n old)
+
+pub ended-spec : {M : Type 1} → statement M
+ended-spec =
+    tie.close
+    (tie.spec
+    held-length-requires
+    array-share-prefix-bytes
+    slice-aggregate-reply
+    sub-reply
+    part-reply-start
+    part-reply-end
+    reply-requires
+    add-result
+    same-length
+    returns)

@@ -1,0 +1,266 @@
+// The line program's lines: a line and its reply, and a stream of lines fed in chunks of any size.
+ghost use mathlib.Core.Path.{_≡_};
+ghost use mathlib.Core.Bool.{cond};
+ghost use mathlib.Core.List.{[], _∷_, map, _++_};
+ghost use Prim.Native.Nat.{_≤_, _<_, _+_};
+ghost use lib.ListN.{length, take, drop};
+ghost use Rattle.engine.specs.Replies.{written};
+ghost use Rattle.lines.specs.Lines.{areNumbers, isCount, refusedWith, echoed, chipDigit, answeredWith, replyTo, fieldsReply, lineReply};
+ghost use Rattle.lines.specs.Stream.{next, said, rest, replies, lastReply, kept, held};
+
+// ---- writing to a buffer: each of these writes from `at` on and answers where it ended
+
+fn put(src: &[u8], out: &mut [u8], at: usize) -> usize
+    requires { ⌜ at + length (now src) ≤ length (now out) ⌝ }
+    ensures { λ r. ⌜ r ≡ at + length (now (src .entry)) ⌝ }
+    ensures { λ r. ⌜ now (out .exit) ≡ written at (now (src .entry)) (now (out .entry)) ⌝ }
+{
+    bytes::copy(src, &mut out[at..]);
+    at + src.len()
+}
+
+// A number, leading zeros dropped, and a space.
+fn put_number(field: &[u8], out: &mut [u8], at: usize) -> usize
+    requires { ⌜ at + length (now field) < length (now out) ⌝ }
+    ensures { λ r. ⌜ r ≡ at + length (echoed (now (field .entry))) ⌝ }
+    ensures { λ r. ⌜ now (out .exit) ≡ written at (echoed (now (field .entry))) (now (out .entry)) ⌝ }
+{
+    let end = put(&field[fields::leading_zeros(field)..], out, at);
+    out[end] = b' ';
+    end + 1
+}
+
+fn chip_digit(chip: u8) -> u8
+    ensures { λ r. ⌜ r ≡ chipDigit chip ⌝ }
+{
+    if chip == 0 { b'0' } else { b'1' }
+}
+
+fn put_chips(chips: &[u8], out: &mut [u8], at: usize) -> usize
+    requires { ⌜ at + length (now chips) ≤ length (now out) ⌝ }
+    ensures { λ r. ⌜ r ≡ at + length (map chipDigit (now (chips .entry))) ⌝ }
+    ensures { λ r. ⌜ now (out .exit) ≡ written at (map chipDigit (now (chips .entry))) (now (out .entry)) ⌝ }
+{
+    let mut i = 0;
+    while i < chips.len() {
+        out[at + i] = chip_digit(chips[i]);
+        i += 1;
+    }
+    at + i
+}
+
+// The reply `refused N`, at the start of the buffer.
+fn refused(n: u32, out: &mut [u8]) -> usize
+    requires { ⌜ n ≤ 9 ⌝ }
+    requires { ⌜ 10 ≤ length (now out) ⌝ }
+    ensures { λ r. ⌜ r ≡ 10 ⌝ }
+    ensures { λ r. ⌜ now (out .exit) ≡ refusedWith n ++ drop 10 (now (out .entry)) ⌝ }
+{
+    let text = [b'r', b'e', b'f', b'u', b's', b'e', b'd', b' ', (48 + n) as u8, b'\n'];
+    put(&text, out, 0)
+}
+
+// ---- a line and its reply: the four fields are cut first, and all else speaks of them
+
+// What a line asks for.
+pub struct Asked {
+    pub signal: u64,
+    pub prn: u64,
+    pub place: u64,
+    pub count: u64,
+}
+
+fn are_numbers(signal: &[u8], prn: &[u8], place: &[u8], count: &[u8]) -> bool
+    ensures { λ r. ⌜ r ≡ areNumbers (now (signal .entry)) (now (prn .entry)) (now (place .entry)) (now (count .entry)) ⌝ }
+{
+    fields::is_number(signal)
+        & fields::is_number(prn)
+        & fields::is_number(place)
+        & fields::is_number(count)
+}
+
+// The first three numbers and the chips, at the start of the buffer.
+fn answered(signal: &[u8], prn: &[u8], place: &[u8], chips: &[u8], out: &mut [u8]) -> usize
+    requires { ⌜ length (now signal) ≤ 13 ⌝ }
+    requires { ⌜ length (now prn) ≤ 13 ⌝ }
+    requires { ⌜ length (now place) ≤ 13 ⌝ }
+    requires { ⌜ length (now chips) ≤ 64 ⌝ }
+    requires { ⌜ 128 ≤ length (now out) ⌝ }
+    ensures { λ r. ⌜ r ≡ length (answeredWith (now (signal .entry)) (now (prn .entry)) (now (place .entry)) (now (chips .entry))) ⌝ }
+    ensures { λ r. ⌜ now (out .exit) ≡ answeredWith (now (signal .entry)) (now (prn .entry)) (now (place .entry)) (now (chips .entry)) ++ drop r (now (out .entry)) ⌝ }
+{
+    let first = put_number(signal, out, 0);
+    let second = put_number(prn, out, first);
+    let third = put_number(place, out, second);
+    let end = put_chips(chips, out, third);
+    out[end] = b'\n';
+    end + 1
+}
+
+// The count asked for, or 0 where it is above 64.
+fn chip_count(count: u64) -> usize
+    ensures { λ r. ⌜ r ≡ cond (isCount count) count 0 ⌝ }
+    ensures { λ r. ⌜ r ≤ 64 ⌝ }
+{
+    if count <= 64 { count as usize } else { 0 }
+}
+
+// The reply to four numbers, given as many bytes for the chips as are asked for, or none where so many may not be asked for.
+fn answer(signal: &[u8], prn: &[u8], place: &[u8], asked: Asked, chips: &mut [u8], out: &mut [u8]) -> usize
+    requires { ⌜ length (now signal) ≤ 13 ⌝ }
+    requires { ⌜ length (now prn) ≤ 13 ⌝ }
+    requires { ⌜ length (now place) ≤ 13 ⌝ }
+    requires { ⌜ length (now chips) ≡ cond (isCount (asked .count)) (asked .count) 0 ⌝ }
+    requires { ⌜ 128 ≤ length (now out) ⌝ }
+    ensures { λ r. ⌜ r ≡ length (replyTo (now (signal .entry)) (now (prn .entry)) (now (place .entry)) (asked .signal) (asked .prn) (asked .place) (asked .count)) ⌝ }
+    ensures { λ r. ⌜ now (out .exit) ≡ replyTo (now (signal .entry)) (now (prn .entry)) (now (place .entry)) (asked .signal) (asked .prn) (asked .place) (asked .count) ++ drop r (now (out .entry)) ⌝ }
+{
+    let refusal = gps_chips::gps_chips(asked.signal, asked.prn, asked.place, chips);
+    if 0 < refusal {
+        return refused(refusal, out);
+    }
+    if chips.len() == 0 {
+        return refused(5, out);
+    }
+    answered(signal, prn, place, chips, out)
+}
+
+// The reply to four fields.
+fn reply_fields(signal: &[u8], prn: &[u8], place: &[u8], count: &[u8], out: &mut [u8]) -> usize
+    requires { ⌜ 128 ≤ length (now out) ⌝ }
+    ensures { λ r. ⌜ r ≡ length (fieldsReply (now (signal .entry)) (now (prn .entry)) (now (place .entry)) (now (count .entry))) ⌝ }
+    ensures { λ r. ⌜ now (out .exit) ≡ fieldsReply (now (signal .entry)) (now (prn .entry)) (now (place .entry)) (now (count .entry)) ++ drop r (now (out .entry)) ⌝ }
+{
+    if !are_numbers(signal, prn, place, count) {
+        return refused(9, out);
+    }
+    let asked = Asked {
+        signal: fields::value_of(signal),
+        prn: fields::value_of(prn),
+        place: fields::value_of(place),
+        count: fields::value_of(count),
+    };
+    let mut chips = [0u8; 64];
+    answer(signal, prn, place, asked, &mut chips[..chip_count(asked.count)], out)
+}
+
+// The reply to a line.
+fn reply(line: &[u8], out: &mut [u8]) -> usize
+    requires { ⌜ 128 ≤ length (now out) ⌝ }
+    ensures { λ r. ⌜ r ≡ length (lineReply (now (line .entry))) ⌝ }
+    ensures { λ r. ⌜ now (out .exit) ≡ lineReply (now (line .entry)) ++ drop r (now (out .entry)) ⌝ }
+{
+    let second = &line[fields::past(line)..];
+    let third = &second[fields::past(second)..];
+    let fourth = &third[fields::past(third)..];
+    let signal = &line[..fields::cut(line)];
+    let prn = &second[..fields::cut(second)];
+    let place = &third[..fields::cut(third)];
+    reply_fields(signal, prn, place, fourth, out)
+}
+
+// ---- the stream
+
+// The line that has no newline yet: its first 56 bytes, one more than the longest well-formed line has. So a line of any length takes no more memory.
+pub struct Pending {
+    pub bytes: [u8; 56],
+    pub len: usize,
+}
+
+// A stream that nothing was fed to.
+pub fn empty() -> Pending
+    ensures { λ r. ⌜ held r ≡ [] ⌝ }
+{
+    Pending { bytes: [0u8; 56], len: 0 }
+}
+
+// One byte more, or none where 56 are kept.
+fn push(s: Pending, b: u8) -> Pending
+    ensures { λ r. ⌜ held r ≡ kept (held s ++ (b ∷ [])) ⌝ }
+{
+    let at = s.len;
+    if 56 <= at {
+        return s;
+    }
+    let mut t = s;
+    t.bytes[at] = b;
+    t.len = at + 1;
+    t
+}
+
+fn held_length(s: Pending) -> usize
+    ensures { λ r. ⌜ r ≡ length (held s) ⌝ }
+{
+    if s.len < 56 { s.len } else { 56 }
+}
+
+// The newline of a line: its reply from n on.
+fn ended(s: Pending, out: &mut [u8], n: usize) -> usize
+    requires { ⌜ n + 128 ≤ length (now out) ⌝ }
+    ensures { λ r. ⌜ r ≡ n + length (lineReply (held s)) ⌝ }
+    ensures { λ r. ⌜ now (out .exit) ≡ written n (lineReply (held s)) (now (out .entry)) ⌝ }
+{
+    let bytes = s.bytes;
+    let k = reply(&bytes[..held_length(s)], &mut out[n..]);
+    n + k
+}
+
+pub struct Turned {
+    pub state: Pending,
+    pub n: usize,
+}
+
+// One byte of input: what it says, from n on.
+fn turn(s: Pending, b: u8, out: &mut [u8], n: usize) -> Turned
+    requires { ⌜ n + 128 ≤ length (now out) ⌝ }
+    ensures { λ r. ⌜ held (r .state) ≡ kept (next (held s) b) ⌝ }
+    ensures { λ r. ⌜ r .n ≡ n + length (said (held s) b) ⌝ }
+    ensures { λ r. ⌜ now (out .exit) ≡ written n (said (held s) b) (now (out .entry)) ⌝ }
+{
+    if b == b'\n' {
+        let end = ended(s, out, n);
+        return Turned { state: empty(), n: end };
+    }
+    Turned { state: push(s, b), n: n }
+}
+
+// What feeding a chunk leaves: the state, how many bytes of the chunk were taken, and how many of the buffer were written.
+pub struct Fed {
+    pub state: Pending,
+    pub used: usize,
+    pub n: usize,
+}
+
+// Takes bytes of a chunk as long as the buffer has 128 bytes left, in which every reply fits, and writes their replies at the buffer's start.
+pub fn feed(s: Pending, input: &[u8], out: &mut [u8]) -> Fed
+    ensures { λ r. ⌜ held (r .state) ≡ kept (rest (held s) (take (r .used) (now (input .entry)))) ⌝ }
+    ensures { λ r. ⌜ now (out .exit) ≡ replies (held s) (take (r .used) (now (input .entry))) ++ drop (r .n) (now (out .entry)) ⌝ }
+    ensures { λ r. ⌜ r .n ≡ length (replies (held s) (take (r .used) (now (input .entry)))) ⌝ }
+    ensures { λ r. ⌜ (r .n ≤ length (now (out .entry))) × (r .used ≤ length (now (input .entry))) ⌝ }
+    ensures { λ r. ⌜ (r .used < length (now (input .entry)) → length (now (out .entry)) < r .n + 128) ⌝ }
+{
+    let mut state = s;
+    let mut n = 0;
+    let mut i = 0;
+    while i < input.len() {
+        if out.len() < 128 + n {
+            return Fed { state: state, used: i, n: n };
+        }
+        let t = turn(state, input[i], out, n);
+        state = t.state;
+        n = t.n;
+        i += 1;
+    }
+    Fed { state: state, used: i, n: n }
+}
+
+// What the end of the input says: nothing, or the refusal of a line that lacks its newline.
+pub fn finish(s: Pending, out: &mut [u8; 10]) -> usize
+    ensures { λ r. ⌜ r ≡ length (lastReply (held s)) ⌝ }
+    ensures { λ r. ⌜ now (out .exit) ≡ lastReply (held s) ++ drop r (now (out .entry)) ⌝ }
+{
+    if s.len == 0 {
+        return 0;
+    }
+    refused(9, out)
+}
