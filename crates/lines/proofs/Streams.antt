@@ -149,6 +149,12 @@ module _ (input old : List ℕ) (start : Pending) where
             ∙ ap kept (sym (rest-more (held start) input i h));
       }
 
+-- a buffer of 128 bytes or more takes in at least one byte of input
+pub fed-some : (line input : List ℕ) (used n size : ℕ) → n ≡ length (replies line (take used input)) → (used < length input → size < n + 128) → 128 ≤ size
+    → 0 < length input → 0 < used
+fed-some line input zero n size long full room some = absurd (omega (arith, long, full some, room))
+fed-some line input (suc used) n size long full room some = omega arith
+
 -- ---- the end of the input
 
 pub none-held : (n : ℕ) (l : List ℕ) → n ≡ 0 → lastReply (take n l) ≡ []

@@ -101,6 +101,9 @@ begins-fits x old new n b same =
     let whole : length new ≡ length x + (length old - n) = ap length (b .is) ∙ simp (length-append, length-drop) in
     omega (arith, whole, same, b .long)
 
+pub begins-within : (x old new : List ℕ) (n : ℕ) → Begins x old new n → n ≤ length new
+begins-within x old new n b = rw (b .is, length-append x (drop n old)) (omega (arith, b .long))
+
 -- the same, with a bound of the list's length
 pub record Room (x old new : List ℕ) (n most : ℕ) : Type 0 where
   pub begins : Begins x old new n

@@ -1,0 +1,108 @@
+use Rattle.lines.proofs.Streams.{fed-some}
+use Rattle.lines.specs.Stream.{held}
+use lib.ListN.{drop, take}
+use lib.Seq.{length-take-le}
+use lib.ListN.{length, length-take, length-drop}
+use Prim.Native.Nat.{_-_, _≤_, _<_}
+use mathlib.Core.Path.{_≡_, sym}
+use native.Mathlib.Omega.{arith}
+use borrow.Author.Needs.{needs}
+use Rattle.codes.proofs.answer.Statement.{statement}
+use Rattle.codes.proofs.answer.Tie as tie
+use Rattle.codes.proofs.answer.Reads as reads
+use Rattle.codes.proofs.answer.Lts as lts
+use Rattle.codes.proofs.wrote.Reads as wrote-reads
+use Rattle.lines.proofs.feed.Reads as feed-reads
+
+abbrev Inv-loop : tie.InvT-loop
+Inv-loop input state₀ at₀ out₀ state at out = (at ≤ length input) × (length out ≡ 65536)
+
+abbrev μ-loop : tie.MeasureT-loop
+μ-loop input state₀ at₀ out₀ state at out = length input - at
+
+-- src/main.rt:34:5
+loop-holds : tie.Need-loop-holds Inv-loop μ-loop
+loop-holds c = search needs
+
+-- src/main.rt:35:38
+sub-feed : tie.Need-sub-feed Inv-loop μ-loop
+sub-feed c = search needs
+
+-- src/main.rt:35:38
+part-feed-start : tie.Need-part-feed-start Inv-loop μ-loop
+part-feed-start c = search needs
+
+-- src/main.rt:35:38
+part-feed-end : tie.Need-part-feed-end Inv-loop μ-loop
+part-feed-end c = search needs
+
+-- src/main.rt:35:52
+slice-aggregate-feed : tie.Need-slice-aggregate-feed Inv-loop μ-loop
+slice-aggregate-feed c = search needs
+
+-- src/main.rt:35:13
+feed-requires : tie.Need-feed-requires Inv-loop μ-loop
+feed-requires c κs = search needs
+
+-- src/main.rt:39:19
+array-share-prefix-out : tie.Need-array-share-prefix-out Inv-loop μ-loop
+array-share-prefix-out c = search needs
+
+-- src/main.rt:39:19
+slice-aggregate-wrote : tie.Need-slice-aggregate-wrote Inv-loop μ-loop
+slice-aggregate-wrote c =
+    let fed = c .before .before .before .feed in
+    sym (length-take-le (fed .result .n) (fed .last .1 .1 .0) (omega arith))
+
+-- src/main.rt:39:13
+wrote-requires : tie.Need-wrote-requires Inv-loop μ-loop
+wrote-requires c κs = search needs
+
+-- src/main.rt:40:13
+returns : tie.Need-returns Inv-loop μ-loop
+returns c = search needs
+
+-- src/main.rt:42:9
+add-at : tie.Need-add-at Inv-loop μ-loop
+add-at c = search needs
+
+-- src/main.rt:34:5
+loop-less : tie.Need-loop-less Inv-loop μ-loop
+loop-less c =
+    let loop = c .before .before .before .before .before .before .before .before .before in
+    let input = loop .before .before .args .input .now in
+    let at = loop .loop .at in
+    let fed = c .before .before .before .before .before .feed in
+    let part = take (length input - at) (drop at input) in
+    let some : 0 < length part = simp (length-take, length-drop) (omega arith) in
+    let used = fed-some (held (loop .loop .state)) part (fed .result .used) (fed .result .n) (length (loop .loop .out)) (fed .ensures .1 .1 .0) (fed .ensures .1 .1 .1 .1) (omega arith) some in
+    omega arith
+
+-- src/main.rt:34:5
+loop-again : tie.Need-loop-again Inv-loop μ-loop
+loop-again c = search needs
+
+-- src/main.rt:30:1
+returns-2 : tie.Need-returns-2 Inv-loop μ-loop
+returns-2 c = search needs
+
+pub answer-spec : {M : Type 1} → statement M
+answer-spec =
+    tie.close
+    (tie.spec
+    Inv-loop
+    μ-loop
+    loop-holds
+    sub-feed
+    part-feed-start
+    part-feed-end
+    slice-aggregate-feed
+    feed-requires
+    array-share-prefix-out
+    slice-aggregate-wrote
+    wrote-requires
+    returns
+    add-at
+    loop-less
+    loop-again
+    returns-2)
