@@ -1,7 +1,6 @@
--- THE ◆ TABLE: the known places of document 01 that belong to the proved set, in the order of its list, and the week's last step. (The list's last ◆
--- is of a gap, and no place.)
+-- THE ◆ TABLE: the known places of document 01 that belong to the proved set, in the order of its list, and the week's last step.
 --     KnownPlaces    the table
---     known-places   it holds: of the stepped machine, and of what a seek from the opened channel replies
+--     known-places   it holds: of the stepped machine, of what a seek from the opened channel replies, and of what Gap replies
 -- Where the list names no PRN, the row is for every PRN.
 -- Assumes nothing.
 use mathlib.Core.Bool.{true}
@@ -13,6 +12,7 @@ use native.Mathlib.Omega.{arith}
 use lib.Arith.{lt-one}
 use lib.Count.{ones, onesIn, ones-step}
 use lib.Dec.{lit<}
+use lib.IntN.{pos, negℤ}
 use Rattle.registers.specs.Times.{times}
 use Rattle.registers.specs.Register.{stage, sumOf, shift}
 use Rattle.starts.specs.Starts.{stagesCA, stagesOf, startI5, advancesI5, advancedXB}
@@ -27,6 +27,8 @@ use Rattle.week.proofs.LawOfTheWeek.{at-place, last-step}
 use Rattle.seeks.specs.Leaps.{phaseOnes, leapsTo}
 use Rattle.engine.specs.Replies.{Reply, seekReply}
 use Rattle.engine.proofs.Calls.{seeks-accepted}
+use Rattle.places.specs.Places.{answer, gapReply}
+use Rattle.places.proofs.EndValues.{half-a-week-on}
 
 -- chips as the number that they are printed as, the first chip leftmost
 abbrev printed : ℕ → List ℕ → ℕ
@@ -80,6 +82,8 @@ pub record KnownPlaces : Type 0 where
   pub xa-8190 : (prn : ℕ) → advance 8190 (opened 5 prn) .first ≡ fresh 0b1111111111111 1
   -- ◆ "C/A at 1,022: 18 leaps."
   pub ca-leaps : (prn : ℕ) → isPrn prn ≡ true → leapsOf 1 prn 1022 ≡ 18 ∷ []
+  -- ◆ "C/A gap from 0 to 309,355,200,000: -309,355,200,000."
+  pub ca-gap : gapReply 1 0 309355200000 ≡ answer (negℤ (pos 309355200000))
 
 -- ---- near the start: stepped
 
@@ -188,4 +192,5 @@ known-places =
       i5-1 = i5-chips;
       xa-8190 = xa-there;
       ca-leaps = λ prn is-prn. tells 1 prn 1022 18 refl is-prn (lit< tt) (leaps-of-ca prn);
+      ca-gap = half-a-week-on;
     }

@@ -1,0 +1,7 @@
+pub mod Epochs
+pub mod Answers
+pub mod ThereAndBack
+pub mod EpochOfP
+pub mod Differences
+pub mod Gaps
+pub mod EndValues

@@ -1,0 +1,2 @@
+-- What Reading, Place of and Gap answer.
+pub mod Places
