@@ -37,11 +37,17 @@ fn answer(s: Pending, input: &[u8]) -> Turn {
         let used = fed.used;
         state = fed.state;
         if !wrote(&out[..n]) {
-            return Turn { then: Then::Failed, state: state };
+            return Turn {
+                then: Then::Failed,
+                state: state,
+            };
         }
         at += used;
     }
-    Turn { then: Then::More, state: state }
+    Turn {
+        then: Then::More,
+        state: state,
+    }
 }
 
 // Reads once. A read that fails is not the end of the input: it is told, and an unfinished line is left without a reply.
@@ -50,10 +56,16 @@ fn read_once(s: Pending) -> Turn {
     let got = libc::read(STDIN_FILENO, &mut buffer);
     if got < 0 {
         os::fail(b"codes: standard input");
-        return Turn { then: Then::Failed, state: s };
+        return Turn {
+            then: Then::Failed,
+            state: s,
+        };
     }
     if got == 0 {
-        return Turn { then: Then::End, state: s };
+        return Turn {
+            then: Then::End,
+            state: s,
+        };
     }
     let n = io::count(got, &buffer);
     answer(s, &buffer[..n])

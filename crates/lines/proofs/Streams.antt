@@ -8,7 +8,7 @@ use native.Mathlib.Numerals.{add-one}
 use native.Mathlib.Omega.{arith}
 use lib.Dec.{leb, eqb}
 use lib.ListN.{length, take, getD, set, length-append, length-take}
-use lib.Seq.{take-all, take-suc-set, take-append-le, length-take-le, take-suc}
+use lib.Seq.{take-all, take-take, take-suc-set, take-append-le, length-take-le, take-suc}
 use borrow.Author.Tests.{leb-true, leb-false, eq-eqb, ne-eqb}
 use Rattle.engine.specs.Replies.{written}
 use Rattle.lines.specs.Lines.{refusedWith, lineReply}
@@ -72,6 +72,9 @@ kept-more : (n : ℕ) (x y : List ℕ) → take n (take n x ++ y) ≡ take n (x 
 kept-more zero x y = refl
 kept-more (suc n) [] y = refl
 kept-more (suc n) (a ∷ x) y = ap (λ (l : List ℕ). a ∷ l) (kept-more n x y)
+
+pub kept-twice : (line : List ℕ) → kept (kept line) ≡ kept line
+kept-twice line = take-take 56 56 line (omega arith)
 
 pub kept-next : (line : List ℕ) (b : ℕ) → kept (next (kept line) b) ≡ kept (next line b)
 kept-next line b = by (eqb b 10)

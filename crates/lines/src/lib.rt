@@ -8,6 +8,15 @@ ghost use Rattle.engine.specs.Replies.{written};
 ghost use Rattle.lines.specs.Lines.{areNumbers, isCount, refusedWith, echoed, chipDigit, answeredWith, replyTo, fieldsReply, lineReply};
 ghost use Rattle.lines.specs.Stream.{next, said, rest, replies, lastReply, kept, held};
 
+// The most chips that a line may ask for.
+const MOST_COUNT: usize = 64;
+
+// So many bytes of a line are kept, one more than the longest well-formed line has: four numbers of 13 digits and three spaces.
+const KEPT: usize = 56;
+
+// Every reply fits in so many bytes.
+const ROOM: usize = 128;
+
 // ---- writing to a buffer: each of these writes from `at` on and answers where it ended
 
 fn put(src: &[u8], out: &mut [u8], at: usize) -> usize
@@ -56,7 +65,8 @@ fn refused(n: u32, out: &mut [u8]) -> usize
     ensures { λ r. ⌜ r ≡ 10 ⌝ }
     ensures { λ r. ⌜ now (out .exit) ≡ refusedWith n ++ drop 10 (now (out .entry)) ⌝ }
 {
-    let text = [b'r', b'e', b'f', b'u', b's', b'e', b'd', b' ', (48 + n) as u8, b'\n'];
+    let mut text = *b"refused N\n";
+    text[8] = (48 + n) as u8;
     put(&text, out, 0)
 }
 
@@ -102,11 +112,18 @@ fn chip_count(count: u64) -> usize
     ensures { λ r. ⌜ r ≡ cond (isCount count) count 0 ⌝ }
     ensures { λ r. ⌜ r ≤ 64 ⌝ }
 {
-    if count <= 64 { count as usize } else { 0 }
+    if count <= MOST_COUNT as u64 { count as usize } else { 0 }
 }
 
 // The reply to four numbers, given as many bytes for the chips as are asked for, or none where so many may not be asked for.
-fn answer(signal: &[u8], prn: &[u8], place: &[u8], asked: Asked, chips: &mut [u8], out: &mut [u8]) -> usize
+fn answer(
+    signal: &[u8],
+    prn: &[u8],
+    place: &[u8],
+    asked: Asked,
+    chips: &mut [u8],
+    out: &mut [u8],
+) -> usize
     requires { ⌜ length (now signal) ≤ 13 ⌝ }
     requires { ⌜ length (now prn) ≤ 13 ⌝ }
     requires { ⌜ length (now place) ≤ 13 ⌝ }
@@ -140,8 +157,15 @@ fn reply_fields(signal: &[u8], prn: &[u8], place: &[u8], count: &[u8], out: &mut
         place: fields::value_of(place),
         count: fields::value_of(count),
     };
-    let mut chips = [0u8; 64];
-    answer(signal, prn, place, asked, &mut chips[..chip_count(asked.count)], out)
+    let mut chips = [0u8; MOST_COUNT];
+    answer(
+        signal,
+        prn,
+        place,
+        asked,
+        &mut chips[..chip_count(asked.count)],
+        out,
+    )
 }
 
 // The reply to a line.
@@ -163,7 +187,7 @@ fn reply(line: &[u8], out: &mut [u8]) -> usize
 
 // The line that has no newline yet: its first 56 bytes, one more than the longest well-formed line has. So a line of any length takes no more memory.
 pub struct Pending {
-    pub bytes: [u8; 56],
+    pub bytes: [u8; KEPT],
     pub len: usize,
 }
 
@@ -171,7 +195,10 @@ pub struct Pending {
 pub fn empty() -> Pending
     ensures { λ r. ⌜ held r ≡ [] ⌝ }
 {
-    Pending { bytes: [0u8; 56], len: 0 }
+    Pending {
+        bytes: [0u8; KEPT],
+        len: 0,
+    }
 }
 
 // One byte more, or none where 56 are kept.
@@ -179,7 +206,7 @@ fn push(s: Pending, b: u8) -> Pending
     ensures { λ r. ⌜ held r ≡ kept (held s ++ (b ∷ [])) ⌝ }
 {
     let at = s.len;
-    if 56 <= at {
+    if KEPT <= at {
         return s;
     }
     let mut t = s;
@@ -191,7 +218,7 @@ fn push(s: Pending, b: u8) -> Pending
 fn held_length(s: Pending) -> usize
     ensures { λ r. ⌜ r ≡ length (held s) ⌝ }
 {
-    if s.len < 56 { s.len } else { 56 }
+    if s.len < KEPT { s.len } else { KEPT }
 }
 
 // The newline of a line: its reply from n on.
@@ -219,9 +246,15 @@ fn turn(s: Pending, b: u8, out: &mut [u8], n: usize) -> Turned
 {
     if b == b'\n' {
         let end = ended(s, out, n);
-        return Turned { state: empty(), n: end };
+        return Turned {
+            state: empty(),
+            n: end,
+        };
     }
-    Turned { state: push(s, b), n: n }
+    Turned {
+        state: push(s, b),
+        n: n,
+    }
 }
 
 // What feeding a chunk leaves: the state, how many bytes of the chunk were taken, and how many of the buffer were written.
@@ -243,15 +276,23 @@ pub fn feed(s: Pending, input: &[u8], out: &mut [u8]) -> Fed
     let mut n = 0;
     let mut i = 0;
     while i < input.len() {
-        if out.len() < 128 + n {
-            return Fed { state: state, used: i, n: n };
+        if out.len() < ROOM + n {
+            return Fed {
+                state: state,
+                used: i,
+                n: n,
+            };
         }
         let t = turn(state, input[i], out, n);
         state = t.state;
         n = t.n;
         i += 1;
     }
-    Fed { state: state, used: i, n: n }
+    Fed {
+        state: state,
+        used: i,
+        n: n,
+    }
 }
 
 // What the end of the input says: nothing, or the refusal of a line that lacks its newline.

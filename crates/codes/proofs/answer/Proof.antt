@@ -1,18 +1,15 @@
-use Rattle.lines.proofs.Streams.{fed-some}
-use Rattle.lines.specs.Stream.{held}
-use lib.ListN.{drop, take}
-use lib.Seq.{length-take-le}
-use lib.ListN.{length, length-take, length-drop}
+-- `codes::answer` does nothing undefined and ends.
+-- Assumes nothing.
 use Prim.Native.Nat.{_-_, _≤_, _<_}
 use mathlib.Core.Path.{_≡_, sym}
 use native.Mathlib.Omega.{arith}
+use lib.ListN.{drop, take, length, length-take, length-drop}
+use lib.Seq.{length-take-le}
 use borrow.Author.Needs.{needs}
+use Rattle.lines.proofs.Streams.{fed-some}
+use Rattle.lines.specs.Stream.{held}
 use Rattle.codes.proofs.answer.Statement.{statement}
 use Rattle.codes.proofs.answer.Tie as tie
-use Rattle.codes.proofs.answer.Reads as reads
-use Rattle.codes.proofs.answer.Lts as lts
-use Rattle.codes.proofs.wrote.Reads as wrote-reads
-use Rattle.lines.proofs.feed.Reads as feed-reads
 
 abbrev Inv-loop : tie.InvT-loop
 Inv-loop input state₀ at₀ out₀ state at out = (at ≤ length input) × (length out ≡ 65536)
@@ -20,53 +17,41 @@ Inv-loop input state₀ at₀ out₀ state at out = (at ≤ length input) × (le
 abbrev μ-loop : tie.MeasureT-loop
 μ-loop input state₀ at₀ out₀ state at out = length input - at
 
--- src/main.rt:34:5
 loop-holds : tie.Need-loop-holds Inv-loop μ-loop
 loop-holds c = search needs
 
--- src/main.rt:35:38
 sub-feed : tie.Need-sub-feed Inv-loop μ-loop
 sub-feed c = search needs
 
--- src/main.rt:35:38
 part-feed-start : tie.Need-part-feed-start Inv-loop μ-loop
 part-feed-start c = search needs
 
--- src/main.rt:35:38
 part-feed-end : tie.Need-part-feed-end Inv-loop μ-loop
 part-feed-end c = search needs
 
--- src/main.rt:35:52
 slice-aggregate-feed : tie.Need-slice-aggregate-feed Inv-loop μ-loop
 slice-aggregate-feed c = search needs
 
--- src/main.rt:35:13
 feed-requires : tie.Need-feed-requires Inv-loop μ-loop
 feed-requires c κs = search needs
 
--- src/main.rt:39:19
 array-share-prefix-out : tie.Need-array-share-prefix-out Inv-loop μ-loop
 array-share-prefix-out c = search needs
 
--- src/main.rt:39:19
 slice-aggregate-wrote : tie.Need-slice-aggregate-wrote Inv-loop μ-loop
 slice-aggregate-wrote c =
     let fed = c .before .before .before .feed in
     sym (length-take-le (fed .result .n) (fed .last .1 .1 .0) (omega arith))
 
--- src/main.rt:39:13
 wrote-requires : tie.Need-wrote-requires Inv-loop μ-loop
 wrote-requires c κs = search needs
 
--- src/main.rt:40:13
 returns : tie.Need-returns Inv-loop μ-loop
 returns c = search needs
 
--- src/main.rt:42:9
 add-at : tie.Need-add-at Inv-loop μ-loop
 add-at c = search needs
 
--- src/main.rt:34:5
 loop-less : tie.Need-loop-less Inv-loop μ-loop
 loop-less c =
     let loop = c .before .before .before .before .before .before .before .before .before in
@@ -78,11 +63,9 @@ loop-less c =
     let used = fed-some (held (loop .loop .state)) part (fed .result .used) (fed .result .n) (length (loop .loop .out)) (fed .ensures .1 .1 .0) (fed .ensures .1 .1 .1 .1) (omega arith) some in
     omega arith
 
--- src/main.rt:34:5
 loop-again : tie.Need-loop-again Inv-loop μ-loop
 loop-again c = search needs
 
--- src/main.rt:30:1
 returns-2 : tie.Need-returns-2 Inv-loop μ-loop
 returns-2 c = search needs
 

@@ -1,40 +1,31 @@
-use Rattle.lines.proofs.Written.{begins-within}
-use Rattle.lines.specs.Stream.{lastReply, held}
+-- `codes::finish` does nothing undefined and ends.
+-- Assumes nothing.
+use mathlib.Core.Path.{sym}
 use lib.Seq.{length-take-le}
 use lib.ListN.{replicate}
-use Prim.Native.Nat.{_≤_}
-use mathlib.Core.Path.{_≡_, sym}
-use native.Mathlib.Omega.{arith}
 use borrow.Author.Needs.{needs}
+use Rattle.lines.proofs.Written.{begins-within}
+use Rattle.lines.specs.Stream.{lastReply, held}
 use Rattle.codes.proofs.finish.Statement.{statement}
 use Rattle.codes.proofs.finish.Tie as tie
-use Rattle.codes.proofs.finish.Reads as reads
-use Rattle.codes.proofs.finish.Lts as lts
-use Rattle.codes.proofs.wrote.Reads as wrote-reads
-use Rattle.lines.proofs.finish.Reads as finish-reads
 
--- src/main.rt:65:9
 finish-requires : tie.Need-finish-requires
 finish-requires c κs = search needs
 
--- src/main.rt:66:11
 array-share-prefix-out : tie.Need-array-share-prefix-out
 array-share-prefix-out c =
     let f = c .finish in
     begins-within (lastReply (held (c .before .before .args .s))) (replicate 10 0) (f .last .1 .0) (f .result) (record { long = f .ensures .0; is = f .ensures .1 })
 
--- src/main.rt:66:11
 slice-aggregate-wrote : tie.Need-slice-aggregate-wrote
 slice-aggregate-wrote c =
     let f = c .before .finish in
     let within = begins-within (lastReply (held (c .before .before .before .args .s))) (replicate 10 0) (f .last .1 .0) (f .result) (record { long = f .ensures .0; is = f .ensures .1 }) in
     sym (length-take-le (f .result) (f .last .1 .0) within)
 
--- src/main.rt:66:5
 wrote-requires : tie.Need-wrote-requires
 wrote-requires c κs = search needs
 
--- src/main.rt:63:1
 returns : tie.Need-returns
 returns c = search needs
 

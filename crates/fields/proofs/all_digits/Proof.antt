@@ -1,16 +1,15 @@
+-- `fields::all_digits` meets its contract.
+-- Assumes nothing.
+use Prim.Native.Nat.{_-_, _≤_, _<_}
+use mathlib.Core.Path.{_≡_, sym, _∙_}
+use native.Mathlib.Omega.{arith}
+use lib.ListN.{length, drop}
+use borrow.Author.Tests.{not-true, not-false}
+use borrow.Author.Needs.{needs}
 use Rattle.fields.proofs.Bytes.{digits-go, digits-stop, digits-end}
 use Rattle.fields.specs.Fields.{digits}
-use borrow.Author.Tests.{not-true, not-false}
-use lib.ListN.{length, drop, getD}
-use mathlib.Core.Path.{_≡_, refl, sym, ap, _∙_}
-use Prim.Native.Nat.{ℕ, _+_, _-_, _*_, _^_, _≤_, _<_}
-use native.Mathlib.Omega.{arith}
-use borrow.Author.Needs.{needs}
 use Rattle.fields.proofs.all_digits.Statement.{statement}
 use Rattle.fields.proofs.all_digits.Tie as tie
-use Rattle.fields.proofs.all_digits.Reads as reads
-use Rattle.fields.proofs.all_digits.Lts as lts
-use Rattle.fields.proofs.is_digit.Reads as is-digit-reads
 
 abbrev Inv-loop : tie.InvT-loop
 Inv-loop s i₀ i = (i ≤ length s) × (digits s ≡ digits (drop i s))
@@ -18,19 +17,15 @@ Inv-loop s i₀ i = (i ≤ length s) × (digits s ≡ digits (drop i s))
 abbrev μ-loop : tie.MeasureT-loop
 μ-loop s i₀ i = length s - i
 
--- src/lib.rt:42:5
 loop-holds : tie.Need-loop-holds Inv-loop μ-loop
 loop-holds c = search needs
 
--- src/lib.rt:43:22
 shared-slice-read-is-digit : tie.Need-shared-slice-read-is-digit Inv-loop μ-loop
 shared-slice-read-is-digit c = search needs
 
--- src/lib.rt:43:13
 is-digit-requires : tie.Need-is-digit-requires Inv-loop μ-loop
 is-digit-requires c κs = search needs
 
--- src/lib.rt:44:13
 returns : tie.Need-returns Inv-loop μ-loop
 returns c =
     let at = c .before .before .before .before in
@@ -39,15 +34,12 @@ returns c =
     let here : i < length l = search needs in
     sym (at .loop .inv .1 ∙ digits-stop l i here (sym (c .before .is-digit .ensures) ∙ not-true (c .before .is-digit .result) (c .if1 .taken)))
 
--- src/lib.rt:46:9
 add-i : tie.Need-add-i Inv-loop μ-loop
 add-i c = search needs
 
--- src/lib.rt:42:5
 loop-less : tie.Need-loop-less Inv-loop μ-loop
 loop-less c = search needs
 
--- src/lib.rt:42:5
 loop-again : tie.Need-loop-again Inv-loop μ-loop
 loop-again c =
     let at = c .before .before .before .before in
@@ -56,7 +48,6 @@ loop-again c =
     let here : i < length l = search needs in
     (omega arith, at .loop .inv .1 ∙ digits-go l i here (sym (c .before .is-digit .ensures) ∙ not-false (c .before .is-digit .result) (c .if1 .left)))
 
--- src/lib.rt:38:1
 returns-2 : tie.Need-returns-2 Inv-loop μ-loop
 returns-2 c =
     let l = c .before .before .before .args .s .now in

@@ -1,14 +1,14 @@
+-- `fields::cut` meets its contract.
+-- Assumes nothing.
+use Prim.Native.Nat.{_+_, _-_, _≤_, _<_}
+use mathlib.Core.Path.{_≡_}
+use native.Mathlib.Omega.{arith}
+use lib.ListN.{length, drop}
+use borrow.Author.Needs.{needs}
 use Rattle.fields.proofs.Bytes.{before-stop, before-more, before-end}
 use Rattle.fields.specs.Fields.{before}
-use lib.ListN.{length, drop, getD}
-use mathlib.Core.Path.{_≡_, refl, sym, ap, _∙_}
-use Prim.Native.Nat.{ℕ, _+_, _-_, _*_, _^_, _≤_, _<_}
-use native.Mathlib.Omega.{arith}
-use borrow.Author.Needs.{needs}
 use Rattle.fields.proofs.cut.Statement.{statement}
 use Rattle.fields.proofs.cut.Tie as tie
-use Rattle.fields.proofs.cut.Reads as reads
-use Rattle.fields.proofs.cut.Lts as lts
 
 abbrev Inv-loop : tie.InvT-loop
 Inv-loop s i₀ i = (i ≤ length s) × (length (before s) ≡ i + length (before (drop i s)))
@@ -16,15 +16,12 @@ Inv-loop s i₀ i = (i ≤ length s) × (length (before s) ≡ i + length (befor
 abbrev μ-loop : tie.MeasureT-loop
 μ-loop s i₀ i = length s - i
 
--- src/lib.rt:13:5
 loop-holds : tie.Need-loop-holds Inv-loop μ-loop
 loop-holds c = search needs
 
--- src/lib.rt:14:12
 shared-slice-read-if1 : tie.Need-shared-slice-read-if1 Inv-loop μ-loop
 shared-slice-read-if1 c = search needs
 
--- src/lib.rt:15:13
 returns : tie.Need-returns Inv-loop μ-loop
 returns c =
     let at = c .before .before .before in
@@ -33,15 +30,12 @@ returns c =
     let here : i < length l = search needs in
     omega (arith, before-stop l i here (c .if1 .taken))
 
--- src/lib.rt:17:9
 add-i : tie.Need-add-i Inv-loop μ-loop
 add-i c = search needs
 
--- src/lib.rt:13:5
 loop-less : tie.Need-loop-less Inv-loop μ-loop
 loop-less c = search needs
 
--- src/lib.rt:13:5
 loop-again : tie.Need-loop-again Inv-loop μ-loop
 loop-again c =
     let at = c .before .before .before in
@@ -50,7 +44,6 @@ loop-again c =
     let here : i < length l = search needs in
     (search needs, omega (arith, before-more l i here (c .if1 .left)))
 
--- src/lib.rt:9:1
 returns-2 : tie.Need-returns-2 Inv-loop μ-loop
 returns-2 c =
     let l = c .before .before .args .s .now in

@@ -1,15 +1,14 @@
-use lib.ListN.{length-drop}
+-- `fields::leading_zeros` meets its contract.
+-- Assumes nothing.
+use Prim.Native.Nat.{_+_, _-_, _≤_, _<_}
+use mathlib.Core.Path.{_≡_, sym, _∙_}
+use native.Mathlib.Omega.{arith}
+use lib.ListN.{length-drop, length, drop}
+use borrow.Author.Needs.{needs}
 use Rattle.fields.proofs.Bytes.{shorn-go, shorn-stop, shorn-end}
 use Rattle.fields.specs.Fields.{shorn}
-use lib.ListN.{length, drop, getD}
-use mathlib.Core.Path.{_≡_, refl, sym, ap, _∙_}
-use Prim.Native.Nat.{ℕ, _+_, _-_, _*_, _^_, _≤_, _<_}
-use native.Mathlib.Omega.{arith}
-use borrow.Author.Needs.{needs}
 use Rattle.fields.proofs.leading_zeros.Statement.{statement}
 use Rattle.fields.proofs.leading_zeros.Tie as tie
-use Rattle.fields.proofs.leading_zeros.Reads as reads
-use Rattle.fields.proofs.leading_zeros.Lts as lts
 
 abbrev Inv-loop : tie.InvT-loop
 Inv-loop s i₀ i = (i ≤ length s) × (shorn s ≡ shorn (drop i s))
@@ -17,19 +16,15 @@ Inv-loop s i₀ i = (i ≤ length s) × (shorn s ≡ shorn (drop i s))
 abbrev μ-loop : tie.MeasureT-loop
 μ-loop s i₀ i = length s - i
 
--- src/lib.rt:92:5
 loop-holds : tie.Need-loop-holds Inv-loop μ-loop
 loop-holds c = search needs
 
--- src/lib.rt:92:11
 add-loop : tie.Need-add-loop Inv-loop μ-loop
 add-loop c = search needs
 
--- src/lib.rt:93:12
 shared-slice-read-if1 : tie.Need-shared-slice-read-if1 Inv-loop μ-loop
 shared-slice-read-if1 c = search needs
 
--- src/lib.rt:94:13
 returns : tie.Need-returns Inv-loop μ-loop
 returns c =
     let at = c .before .before .before in
@@ -38,15 +33,12 @@ returns c =
     let here : i + 1 < length l = search needs in
     (search needs, sym (at .loop .inv .1 ∙ shorn-stop l i here (c .if1 .taken)))
 
--- src/lib.rt:96:9
 add-i : tie.Need-add-i Inv-loop μ-loop
 add-i c = search needs
 
--- src/lib.rt:92:5
 loop-less : tie.Need-loop-less Inv-loop μ-loop
 loop-less c = search needs
 
--- src/lib.rt:92:5
 loop-again : tie.Need-loop-again Inv-loop μ-loop
 loop-again c =
     let at = c .before .before .before in
@@ -55,7 +47,6 @@ loop-again c =
     let here : i + 1 < length l = search needs in
     (search needs, at .loop .inv .1 ∙ shorn-go l i here (c .if1 .left))
 
--- src/lib.rt:87:1
 returns-2 : tie.Need-returns-2 Inv-loop μ-loop
 returns-2 c =
     let l = c .before .before .args .s .now in

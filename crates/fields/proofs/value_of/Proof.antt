@@ -1,18 +1,15 @@
+-- `fields::value_of` meets its contract.
+-- Assumes nothing.
+use Prim.Native.Nat.{ℕ, _+_, _-_, _*_, _^_, _≤_, _<_}
+use mathlib.Core.Bool.{true}
+use mathlib.Core.Path.{_≡_, refl, sym, ap, _∙_}
+use native.Mathlib.Omega.{arith}
+use lib.ListN.{length, drop}
+use borrow.Author.Needs.{needs}
 use Rattle.fields.proofs.Bytes.{number-is, digit-at, value-more, value-end, ten-more, ten-small}
 use Rattle.fields.specs.Fields.{digits, valueFrom}
-use borrow.Author.Tests.{leb-true}
-use lib.Dec.{leb}
-use mathlib.Core.Bool.{true, _&&_, and-eq-true-iff}
-use lib.ListN.{length, drop, getD}
-use mathlib.Core.Path.{_≡_, refl, sym, ap, _∙_}
-use Prim.Native.Nat.{ℕ, _+_, _-_, _*_, _^_, _≤_, _<_}
-use native.Mathlib.Omega.{arith}
-use borrow.Author.Needs.{needs}
 use Rattle.fields.proofs.value_of.Statement.{statement}
 use Rattle.fields.proofs.value_of.Tie as tie
-use Rattle.fields.proofs.value_of.Reads as reads
-use Rattle.fields.proofs.value_of.Lts as lts
-use Rattle.fields.proofs.digit_value.Reads as digit-value-reads
 
 abbrev Inv-loop : tie.InvT-loop
 Inv-loop s n₀ i₀ n i = (i ≤ length s) × ((length s ≤ 13) × ((valueFrom 0 s ≡ valueFrom n (drop i s)) × ((digits (drop i s) ≡ true) × (n < 10 ^ i))))
@@ -20,25 +17,21 @@ Inv-loop s n₀ i₀ n i = (i ≤ length s) × ((length s ≤ 13) × ((valueFrom
 abbrev μ-loop : tie.MeasureT-loop
 μ-loop s n₀ i₀ n i = length s - i
 
--- src/lib.rt:79:5
 loop-holds : tie.Need-loop-holds Inv-loop μ-loop
 loop-holds c =
     let l = c .before .args .s .now in
     let number = number-is l (c .before .pre) in
     (omega arith, (number .0, (refl, (number .1, omega arith))))
 
--- src/lib.rt:80:13
 mul-n : tie.Need-mul-n Inv-loop μ-loop
 mul-n c =
     let i = c .before .loop .i in
     let here : i < 13 = omega arith in
     omega (arith, ten-small i here)
 
--- src/lib.rt:80:34
 shared-slice-read-digit-value : tie.Need-shared-slice-read-digit-value Inv-loop μ-loop
 shared-slice-read-digit-value c = search needs
 
--- src/lib.rt:80:22
 digit-value-requires : tie.Need-digit-value-requires Inv-loop μ-loop
 digit-value-requires c κs =
     let at = c .before .before in
@@ -47,7 +40,6 @@ digit-value-requires c κs =
     let here : i < length l = search needs in
     digit-at l i here (at .loop .inv .1 .1 .1 .0) .0
 
--- src/lib.rt:80:13
 add-n : tie.Need-add-n Inv-loop μ-loop
 add-n c =
     let at = c .before .before .before in
@@ -58,15 +50,12 @@ add-n c =
     let few : i < 13 = omega arith in
     omega (arith, ten-small i few, c .digit-value .ensures, d .1 .0)
 
--- src/lib.rt:81:9
 add-i : tie.Need-add-i Inv-loop μ-loop
 add-i c = search needs
 
--- src/lib.rt:79:5
 loop-less : tie.Need-loop-less Inv-loop μ-loop
 loop-less c = search needs
 
--- src/lib.rt:79:5
 loop-again : tie.Need-loop-again Inv-loop μ-loop
 loop-again c =
     let at = c .before .before .before in
@@ -79,7 +68,6 @@ loop-again c =
     let v = c .digit-value .ensures in
     (omega arith, (inv .1 .0, (inv .1 .1 .0 ∙ value-more l i here n ∙ ap (λ (x : ℕ). valueFrom (n * 10 + x) (drop (i + 1) l)) (sym v), (d .1 .1, ten-more n (c .digit-value .result) i (inv .1 .1 .1 .1) (omega (arith, v, d .1 .0))))))
 
--- src/lib.rt:73:1
 returns : tie.Need-returns Inv-loop μ-loop
 returns c =
     let l = c .before .before .before .args .s .now in

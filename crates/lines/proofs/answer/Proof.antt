@@ -1,24 +1,18 @@
+-- `lines::answer` meets its contract.
+-- Assumes nothing.
+use Prim.Native.Nat.{_≤_}
+use mathlib.Core.Path.{_≡_, refl}
+use native.Mathlib.Omega.{arith}
+use lib.ListN.{length}
+use borrow.Author.Needs.{needs}
 use Rattle.lines.proofs.LineReplies.{few-asked, reply-refused, reply-no-count, reply-answered, replied}
 use Rattle.lines.specs.Lines.{refusedWith, answeredWith, replyTo}
-use lib.ListN.{length}
-use Prim.Native.Nat.{ℕ, _≤_}
-use mathlib.Core.Path.{_≡_, refl, sym, ap, _∙_}
-use mathlib.Core.List.{List}
-use native.Mathlib.Omega.{arith}
-use borrow.Author.Needs.{needs}
 use Rattle.lines.proofs.answer.Statement.{statement}
 use Rattle.lines.proofs.answer.Tie as tie
-use Rattle.lines.proofs.answer.Reads as reads
-use Rattle.lines.proofs.answer.Lts as lts
-use Rattle.gps_chips.proofs.gps_chips.Reads as gps-chips-reads
-use Rattle.lines.proofs.answered.Reads as answered-reads
-use Rattle.lines.proofs.refused.Reads as refused-reads
 
--- src/lib.rt:118:9
 gps-chips-requires : tie.Need-gps-chips-requires
 gps-chips-requires c κs = search needs
 
--- src/lib.rt:120:9
 refused-requires : tie.Need-refused-requires
 refused-requires c κs =
     let start = c .before .before .before .before .before .before .before .before .before .before .before in
@@ -30,15 +24,12 @@ refused-requires c κs =
     let refused = reply-refused (q .signal) (q .prn) (q .place) (q .count) n (pre .1 .1 .1 .0) (a .signal .now) (a .prn .now) (a .place .now) (g .result) (g .ensures .0) (c .before .if1 .taken) in
     (omega (arith, refused .1), omega (arith, pre .1 .1 .1 .1))
 
--- src/lib.rt:120:9
 same-length : tie.Need-same-length
 same-length c = search needs
 
--- src/lib.rt:120:9
 same-length-2 : tie.Need-same-length-2
 same-length-2 c = search needs
 
--- src/lib.rt:120:9
 returns : tie.Need-returns
 returns c =
     let start = c .before .before .before .before .before .before .before .before .before .before .before .before .before .before in
@@ -51,19 +42,15 @@ returns c =
     let refused = reply-refused (q .signal) (q .prn) (q .place) (q .count) n (pre .1 .1 .1 .0) (a .signal .now) (a .prn .now) (a .place .now) (g .result) (g .ensures .0) (c .before .before .before .before .if1 .taken) in
     replied (refusedWith (g .result)) (replyTo (a .signal .now) (a .prn .now) (a .place .now) (q .signal) (q .prn) (q .place) (q .count)) (a .out .now) (w .last .1 .0) (w .result) 10 (w .ensures .0) refl (w .ensures .1) (refused .0)
 
--- src/lib.rt:123:9
 refused-requires-2 : tie.Need-refused-requires-2
 refused-requires-2 c κs = search needs
 
--- src/lib.rt:123:9
 same-length-3 : tie.Need-same-length-3
 same-length-3 c = search needs
 
--- src/lib.rt:123:9
 same-length-4 : tie.Need-same-length-4
 same-length-4 c = search needs
 
--- src/lib.rt:123:9
 returns-2 : tie.Need-returns-2
 returns-2 c =
     let start = c .before .before .before .before .before .before .before .before .before .before .before .before .before .before .before in
@@ -77,7 +64,6 @@ returns-2 c =
     let refused = reply-no-count (q .signal) (q .prn) (q .place) (q .count) n (pre .1 .1 .1 .0) (a .signal .now) (a .prn .now) (a .place .now) (g .result) (g .ensures .0) (c .before .before .before .before .before .if1 .left) none in
     replied (refusedWith 5) (replyTo (a .signal .now) (a .prn .now) (a .place .now) (q .signal) (q .prn) (q .place) (q .count)) (a .out .now) (w .last .1 .0) (w .result) 10 (w .ensures .0) refl (w .ensures .1) refused
 
--- src/lib.rt:125:5
 answered-requires : tie.Need-answered-requires
 answered-requires c κs =
     let start = c .before .before .before .before .before .before .before .before .before .before .before .before .before in
@@ -89,15 +75,12 @@ answered-requires c κs =
     let few : n ≤ 64 = few-asked (q .signal) (q .prn) (q .place) (q .count) n (pre .1 .1 .1 .0) in
     (pre .0, (pre .1 .0, (pre .1 .1 .0, (search needs, pre .1 .1 .1 .1))))
 
--- src/lib.rt:109:1
 same-length-5 : tie.Need-same-length-5
 same-length-5 c = search needs
 
--- src/lib.rt:109:1
 same-length-6 : tie.Need-same-length-6
 same-length-6 c = search needs
 
--- src/lib.rt:109:1
 returns-3 : tie.Need-returns-3
 returns-3 c =
     let start = c .before .before .before .before .before .before .before .before .before .before .before .before .before .before .before .before in

@@ -1,24 +1,20 @@
+-- `lines::answered` meets its contract.
+-- Assumes nothing.
+use Prim.Native.Nat.{ℕ, _+_, _≤_}
+use mathlib.Core.Path.{ap, _∙_}
+use mathlib.Core.List.{List, [], _++_, map}
+use native.Mathlib.Omega.{arith}
+use lib.ListN.{length, drop, length-set}
+use borrow.Author.Needs.{needs}
 use Rattle.lines.proofs.LineReplies.{echoed-most, digits-most, answered-is}
 use Rattle.lines.proofs.Written.{room-none, room-more, begins-byte}
 use Rattle.lines.specs.Lines.{echoed, chipDigit}
-use lib.ListN.{length, drop, length-set}
-use Prim.Native.Nat.{ℕ, _+_, _≤_, _<_}
-use mathlib.Core.Path.{_≡_, ap, sym, _∙_}
-use mathlib.Core.List.{List, [], _++_, map}
-use native.Mathlib.Omega.{arith}
-use borrow.Author.Needs.{needs}
 use Rattle.lines.proofs.answered.Statement.{statement}
 use Rattle.lines.proofs.answered.Tie as tie
-use Rattle.lines.proofs.answered.Reads as reads
-use Rattle.lines.proofs.answered.Lts as lts
-use Rattle.lines.proofs.put_chips.Reads as put-chips-reads
-use Rattle.lines.proofs.put_number.Reads as put-number-reads
 
--- src/lib.rt:92:9
 put-number-requires : tie.Need-put-number-requires
 put-number-requires c κs = search needs
 
--- src/lib.rt:93:9
 put-number-requires-2 : tie.Need-put-number-requires-2
 put-number-requires-2 c κs =
     let start = c .before .before .before .before .before .before .before .before .before .before in
@@ -30,7 +26,6 @@ put-number-requires-2 c κs =
     let short = start .pre .1 .0 in
     omega (arith, r1 .few, r1 .same, room, short)
 
--- src/lib.rt:94:9
 put-number-requires-3 : tie.Need-put-number-requires-3
 put-number-requires-3 c κs =
     let start = c .before .before .before .before .before .before .before .before .before .before .before .before .before .before in
@@ -44,7 +39,6 @@ put-number-requires-3 c κs =
     let short = start .pre .1 .1 .0 in
     omega (arith, r2 .few, r2 .same, room, short)
 
--- src/lib.rt:95:9
 put-chips-requires : tie.Need-put-chips-requires
 put-chips-requires c κs =
     let start = c .before .before .before .before .before .before .before .before .before .before .before .before .before .before .before .before .before .before in
@@ -60,7 +54,6 @@ put-chips-requires c κs =
     let short = start .pre .1 .1 .1 .0 in
     omega (arith, r3 .few, r3 .same, room, short)
 
--- src/lib.rt:96:5
 slice-write-out : tie.Need-slice-write-out
 slice-write-out c =
     let start = c .before .before .before .before .before .before .before .before .before .before .before .before .before .before .before .before .before .before .before .before .before in
@@ -77,7 +70,6 @@ slice-write-out c =
     let r4 = room-more (((echoed (a .signal .now)) ++ echoed (a .prn .now)) ++ echoed (a .place .now)) (map chipDigit (a .chips .now)) old (w3 .last .1 .0) (w4 .last .1 .0) (w3 .result) (w4 .result) 42 64 r3 (w4 .ensures .0) (w4 .ensures .1) (digits-most (a .chips .now) (start .pre .1 .1 .1 .0)) (omega (arith, room)) in
     omega (arith, r4 .few, r4 .same, room)
 
--- src/lib.rt:97:5
 add-result : tie.Need-add-result
 add-result c =
     let start = c .before .before .before .before .before .before .before .before .before .before .before .before .before .before .before .before .before .before .before .before .before in
@@ -94,7 +86,6 @@ add-result c =
     let r4 = room-more (((echoed (a .signal .now)) ++ echoed (a .prn .now)) ++ echoed (a .place .now)) (map chipDigit (a .chips .now)) old (w3 .last .1 .0) (w4 .last .1 .0) (w3 .result) (w4 .result) 42 64 r3 (w4 .ensures .0) (w4 .ensures .1) (digits-most (a .chips .now) (start .pre .1 .1 .1 .0)) (omega (arith, room)) in
     record { fits = omega (arith, r4 .few) }
 
--- src/lib.rt:83:1
 same-length : tie.Need-same-length
 same-length c =
     let start = c .before .before .before .before .before .before .before .before .before .before .before .before .before .before .before .before .before .before .before .before .before in
@@ -111,7 +102,6 @@ same-length c =
     let r4 = room-more (((echoed (a .signal .now)) ++ echoed (a .prn .now)) ++ echoed (a .place .now)) (map chipDigit (a .chips .now)) old (w3 .last .1 .0) (w4 .last .1 .0) (w3 .result) (w4 .result) 42 64 r3 (w4 .ensures .0) (w4 .ensures .1) (digits-most (a .chips .now) (start .pre .1 .1 .1 .0)) (omega (arith, room)) in
     length-set (w4 .last .1 .0) (w4 .result) 10 ∙ r4 .same
 
--- src/lib.rt:83:1
 returns : tie.Need-returns
 returns c =
     let start = c .before .before .before .before .before .before .before .before .before .before .before .before .before .before .before .before .before .before .before .before .before in

@@ -1,16 +1,13 @@
+-- `lines::chip_count` meets its contract.
+-- Assumes nothing.
 use native.Mathlib.Omega.{arith}
 use Rattle.lines.proofs.LineReplies.{few, many}
-use borrow.Author.Needs.{needs}
 use Rattle.lines.proofs.chip_count.Statement.{statement}
 use Rattle.lines.proofs.chip_count.Tie as tie
-use Rattle.lines.proofs.chip_count.Reads as reads
-use Rattle.lines.proofs.chip_count.Lts as lts
 
--- src/lib.rt:151:1
 returns : tie.Need-returns
 returns c = (few (c .before .args .count) (c .if1 .taken), c .if1 .taken)
 
--- src/lib.rt:151:1
 returns-2 : tie.Need-returns-2
 returns-2 c = (many (c .before .args .count) (c .if1 .left), omega arith)
 

@@ -1,55 +1,45 @@
+-- `lines::ended` meets its contract.
+-- Assumes nothing.
+use Prim.Native.Nat.{ℕ, _+_, _-_, _≤_}
+use mathlib.Core.Path.{_≡_, sym, ap, _∙_}
+use mathlib.Core.List.{List, _++_}
+use native.Mathlib.Omega.{arith}
+use lib.Seq.{length-take-le}
+use lib.ListN.{length, take, drop, length-take}
+use borrow.Author.Needs.{needs}
 use Rattle.lines.proofs.Streams.{held-again}
 use Rattle.lines.proofs.Written.{begins-fits}
 use Rattle.lines.specs.Stream.{held}
 use Rattle.lines.specs.Lines.{lineReply}
 use Rattle.runs.proofs.ChipsSoFar.{put-back}
-use lib.Seq.{length-take-le}
-use lib.ListN.{length, take, drop, length-take, length-drop}
-use Prim.Native.Nat.{ℕ, _+_, _-_, _≤_}
-use mathlib.Core.Path.{_≡_, refl, sym, ap, _∙_}
-use mathlib.Core.List.{List, _++_}
-use native.Mathlib.Omega.{arith}
-use borrow.Author.Needs.{needs}
 use Rattle.lines.proofs.ended.Statement.{statement}
 use Rattle.lines.proofs.ended.Tie as tie
-use Rattle.lines.proofs.ended.Reads as reads
-use Rattle.lines.proofs.ended.Lts as lts
-use Rattle.lines.proofs.held_length.Reads as held-length-reads
-use Rattle.lines.proofs.reply.Reads as reply-reads
 
--- src/lib.rt:204:28
 held-length-requires : tie.Need-held-length-requires
 held-length-requires c κs = search needs
 
--- src/lib.rt:204:19
 array-share-prefix-bytes : tie.Need-array-share-prefix-bytes
 array-share-prefix-bytes c =
     let s = c .before .before .before .args .s in
     omega (arith, c .held-length .ensures, length-take (s .len) (s .bytes))
 
--- src/lib.rt:204:19
 slice-aggregate-reply : tie.Need-slice-aggregate-reply
 slice-aggregate-reply c =
     let s = c .before .before .before .before .args .s in
     sym (length-take-le (c .before .held-length .result) (s .bytes) (omega (arith, c .before .held-length .ensures, length-take (s .len) (s .bytes))))
 
--- src/lib.rt:204:45
 sub-reply : tie.Need-sub-reply
 sub-reply c = search needs
 
--- src/lib.rt:204:45
 part-reply-start : tie.Need-part-reply-start
 part-reply-start c = search needs
 
--- src/lib.rt:204:45
 part-reply-end : tie.Need-part-reply-end
 part-reply-end c = search needs
 
--- src/lib.rt:204:9
 reply-requires : tie.Need-reply-requires
 reply-requires c κs = search needs
 
--- src/lib.rt:205:5
 add-result : tie.Need-add-result
 add-result c =
     let a = c .before .before .before .before .before .before .before .before .args in
@@ -61,11 +51,9 @@ add-result c =
     let room : length part ≤ length old - a .n = omega (arith, length-take (length old - a .n) (drop (a .n) old)) in
     omega (arith, fits, room)
 
--- src/lib.rt:198:1
 same-length : tie.Need-same-length
 same-length c = search needs
 
--- src/lib.rt:198:1
 returns : tie.Need-returns
 returns c =
     let a = c .before .before .before .before .before .before .before .before .args in

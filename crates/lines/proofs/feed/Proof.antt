@@ -1,14 +1,12 @@
-use Rattle.lines.proofs.Streams.{FedSoFar, fed-none, fed-more}
-use lib.ListN.{length}
+-- `lines::feed` meets its contract.
+-- Assumes nothing.
 use Prim.Native.Nat.{_-_, _<_}
-use mathlib.Core.Path.{_≡_}
 use native.Mathlib.Omega.{arith}
+use lib.ListN.{length}
 use borrow.Author.Needs.{needs}
+use Rattle.lines.proofs.Streams.{FedSoFar, fed-none, fed-more}
 use Rattle.lines.proofs.feed.Statement.{statement}
 use Rattle.lines.proofs.feed.Tie as tie
-use Rattle.lines.proofs.feed.Reads as reads
-use Rattle.lines.proofs.feed.Lts as lts
-use Rattle.lines.proofs.turn.Reads as turn-reads
 
 abbrev Inv-loop : tie.InvT-loop
 Inv-loop input out₀ state₀ n₀ i₀ out state n i = FedSoFar input out₀ state₀ out state n i
@@ -16,43 +14,34 @@ Inv-loop input out₀ state₀ n₀ i₀ out state n i = FedSoFar input out₀ s
 abbrev μ-loop : tie.MeasureT-loop
 μ-loop input out₀ state₀ n₀ i₀ out state n i = length input - i
 
--- src/lib.rt:245:5
 loop-holds : tie.Need-loop-holds Inv-loop μ-loop
 loop-holds c =
     let a = c .before .before .args in
     fed-none (a .input .now) (a .out .now) (a .s) (search needs)
 
--- src/lib.rt:246:24
 add-if1 : tie.Need-add-if1 Inv-loop μ-loop
 add-if1 c = search needs
 
--- src/lib.rt:247:13
 same-length : tie.Need-same-length Inv-loop μ-loop
 same-length c = search needs
 
--- src/lib.rt:247:13
 returns : tie.Need-returns Inv-loop μ-loop
 returns c =
     let f = c .before .before .loop .inv in
     (f .held-is, (f .begins .is, (f .begins .long, ((f .room, f .bound), λ h. omega arith))))
 
--- src/lib.rt:249:29
 shared-slice-read-turn : tie.Need-shared-slice-read-turn Inv-loop μ-loop
 shared-slice-read-turn c = search needs
 
--- src/lib.rt:249:13
 turn-requires : tie.Need-turn-requires Inv-loop μ-loop
 turn-requires c κs = search needs
 
--- src/lib.rt:252:9
 add-i : tie.Need-add-i Inv-loop μ-loop
 add-i c = search needs
 
--- src/lib.rt:245:5
 loop-less : tie.Need-loop-less Inv-loop μ-loop
 loop-less c = search needs
 
--- src/lib.rt:245:5
 loop-again : tie.Need-loop-again Inv-loop μ-loop
 loop-again c =
     let a = c .before .before .before .before .before .before .before .before .before .before .before .args in
@@ -61,11 +50,9 @@ loop-again c =
     let here : at .i < length (a .input .now) = search needs in
     fed-more (a .input .now) (a .out .now) (a .s) (at .out) (t .last .1 .1 .0) (at .state) (t .result .state) (at .n) (t .result .n) (at .i) (at .inv) here (t .ensures .0) (t .ensures .1 .0) (t .ensures .1 .1) (search needs)
 
--- src/lib.rt:235:1
 same-length-2 : tie.Need-same-length-2 Inv-loop μ-loop
 same-length-2 c = search needs
 
--- src/lib.rt:235:1
 returns-2 : tie.Need-returns-2 Inv-loop μ-loop
 returns-2 c =
     let f = c .before .loop .inv in

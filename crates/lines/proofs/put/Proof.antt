@@ -1,42 +1,33 @@
-use lib.ListN.{length-take, length-drop}
-use Rattle.runs.proofs.ChipsSoFar.{put-back}
-use lib.Seq.{take-length}
-use lib.ListN.{length, take, drop}
+-- `lines::put` meets its contract.
+-- Assumes nothing.
 use Prim.Native.Nat.{ℕ, _-_}
 use mathlib.Core.Path.{_≡_, refl, ap, _∙_}
 use mathlib.Core.List.{List, _++_}
+use lib.ListN.{length, take, drop}
+use lib.Seq.{take-length}
 use borrow.Author.Needs.{needs}
+use Rattle.runs.proofs.ChipsSoFar.{put-back}
 use Rattle.lines.proofs.put.Statement.{statement}
 use Rattle.lines.proofs.put.Tie as tie
-use Rattle.lines.proofs.put.Reads as reads
-use Rattle.lines.proofs.put.Lts as lts
-use Rattle.bytes.proofs.copy.Reads as copy-reads
 
--- src/lib.rt:20:22
 sub-copy : tie.Need-sub-copy
 sub-copy c = search needs
 
--- src/lib.rt:20:22
 part-copy-start : tie.Need-part-copy-start
 part-copy-start c = search needs
 
--- src/lib.rt:20:22
 part-copy-end : tie.Need-part-copy-end
 part-copy-end c = search needs
 
--- src/lib.rt:20:5
 copy-requires : tie.Need-copy-requires
 copy-requires c κs = search needs
 
--- src/lib.rt:21:5
 add-result : tie.Need-add-result
 add-result c = search needs
 
--- src/lib.rt:15:1
 same-length : tie.Need-same-length
 same-length c = search needs
 
--- src/lib.rt:15:1
 returns : tie.Need-returns
 returns c =
     let a = c .before .before .before .before .before .before .args in

@@ -1,18 +1,17 @@
-use Rattle.lines.proofs.Written.{written-none, chip-more}
-use Rattle.lines.specs.Lines.{chipDigit}
-use Rattle.engine.specs.Replies.{written}
-use lib.Seq.{take-all}
-use lib.ListN.{length, take, drop, getD, set, length-map}
+-- `lines::put_chips` meets its contract.
+-- Assumes nothing.
 use Prim.Native.Nat.{ℕ, _+_, _-_, _≤_, _<_}
 use mathlib.Core.Path.{_≡_, refl, sym, ap, _∙_}
 use mathlib.Core.List.{List, map}
 use native.Mathlib.Omega.{arith}
+use lib.Seq.{take-all}
+use lib.ListN.{length, take, set, length-map}
 use borrow.Author.Needs.{needs}
+use Rattle.lines.proofs.Written.{written-none, chip-more}
+use Rattle.lines.specs.Lines.{chipDigit}
+use Rattle.engine.specs.Replies.{written}
 use Rattle.lines.proofs.put_chips.Statement.{statement}
 use Rattle.lines.proofs.put_chips.Tie as tie
-use Rattle.lines.proofs.put_chips.Reads as reads
-use Rattle.lines.proofs.put_chips.Lts as lts
-use Rattle.lines.proofs.chip_digit.Reads as chip-digit-reads
 
 abbrev Inv-loop : tie.InvT-loop
 Inv-loop chips out₀ at i₀ out i = (i ≤ length chips) × ((length out ≡ length out₀) × ((at + length chips ≤ length out₀) × (out ≡ written at (map chipDigit (take i chips)) out₀)))
@@ -20,37 +19,29 @@ Inv-loop chips out₀ at i₀ out i = (i ≤ length chips) × ((length out ≡ l
 abbrev μ-loop : tie.MeasureT-loop
 μ-loop chips out₀ at i₀ out i = length chips - i
 
--- src/lib.rt:48:5
 loop-holds : tie.Need-loop-holds Inv-loop μ-loop
 loop-holds c =
     let a = c .before .before .args in
     (omega arith, (refl, (c .before .before .pre, written-none (a .at) (a .out .now))))
 
--- src/lib.rt:49:34
 shared-slice-read-chip-digit : tie.Need-shared-slice-read-chip-digit Inv-loop μ-loop
 shared-slice-read-chip-digit c = search needs
 
--- src/lib.rt:49:23
 chip-digit-requires : tie.Need-chip-digit-requires Inv-loop μ-loop
 chip-digit-requires c κs = search needs
 
--- src/lib.rt:49:13
 add-out : tie.Need-add-out Inv-loop μ-loop
 add-out c = search needs
 
--- src/lib.rt:49:9
 slice-write-out : tie.Need-slice-write-out Inv-loop μ-loop
 slice-write-out c = search needs
 
--- src/lib.rt:50:9
 add-i : tie.Need-add-i Inv-loop μ-loop
 add-i c = search needs
 
--- src/lib.rt:48:5
 loop-less : tie.Need-loop-less Inv-loop μ-loop
 loop-less c = search needs
 
--- src/lib.rt:48:5
 loop-again : tie.Need-loop-again Inv-loop μ-loop
 loop-again c =
     let at = c .before .before .before in
@@ -60,29 +51,25 @@ loop-again c =
     let i = at .loop .i in
     let inv = at .loop .inv in
     let here : i < length chips = search needs in
-    let digit = c .chip-digit .ensures in
-    (
+    let digit = c .chip-digit .ensures in (
       omega arith,
       (
         search needs,
         (
           inv .1 .1 .0,
           ap (λ (l : List ℕ). set l (a .at + i) (c .chip-digit .result)) (inv .1 .1 .1)
-          ∙ ap (set (written (a .at) (map chipDigit (take i chips)) old) (a .at + i)) digit
-          ∙ chip-more chips old (a .at) i here (inv .1 .1 .0),
+              ∙ ap (set (written (a .at) (map chipDigit (take i chips)) old) (a .at + i)) digit
+              ∙ chip-more chips old (a .at) i here (inv .1 .1 .0),
         ),
       ),
     )
 
--- src/lib.rt:52:5
 add-result : tie.Need-add-result Inv-loop μ-loop
 add-result c = search needs
 
--- src/lib.rt:42:1
 same-length : tie.Need-same-length Inv-loop μ-loop
 same-length c = search needs
 
--- src/lib.rt:42:1
 returns : tie.Need-returns Inv-loop μ-loop
 returns c =
     let a = c .before .before .before .before .args in

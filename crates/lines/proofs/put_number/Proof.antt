@@ -1,53 +1,42 @@
+-- `lines::put_number` meets its contract.
+-- Assumes nothing.
+use Prim.Native.Nat.{ℕ, _+_, _-_, _<_}
+use mathlib.Core.Path.{_≡_, ap, _∙_}
+use mathlib.Core.List.{List, [], _∷_}
+use native.Mathlib.Omega.{arith}
+use lib.ListN.{length, take, drop, set, length-append}
+use borrow.Author.Needs.{needs}
 use Rattle.lines.proofs.Written.{byte-more, part-from}
 use Rattle.engine.specs.Replies.{written}
 use Rattle.fields.specs.Fields.{shorn}
 use Rattle.fields.proofs.Bytes.{shorn-short}
-use lib.ListN.{length, take, drop, set, length-append}
-use Prim.Native.Nat.{ℕ, _+_, _-_, _<_}
-use mathlib.Core.Path.{_≡_, refl, sym, ap, subst, _∙_}
-use mathlib.Core.List.{List, [], _∷_, _++_}
-use native.Mathlib.Omega.{arith}
-use borrow.Author.Needs.{needs}
 use Rattle.lines.proofs.put_number.Statement.{statement}
 use Rattle.lines.proofs.put_number.Tie as tie
-use Rattle.lines.proofs.put_number.Reads as reads
-use Rattle.lines.proofs.put_number.Lts as lts
-use Rattle.fields.proofs.leading_zeros.Reads as leading-zeros-reads
-use Rattle.lines.proofs.put.Reads as put-reads
 
--- src/lib.rt:28:26
 leading-zeros-requires : tie.Need-leading-zeros-requires
 leading-zeros-requires c κs = search needs
 
--- src/lib.rt:28:19
 sub-put : tie.Need-sub-put
 sub-put c = search needs
 
--- src/lib.rt:28:19
 part-put-start : tie.Need-part-put-start
 part-put-start c = search needs
 
--- src/lib.rt:28:19
 part-put-end : tie.Need-part-put-end
 part-put-end c = search needs
 
--- src/lib.rt:28:9
 put-requires : tie.Need-put-requires
 put-requires c κs = search needs
 
--- src/lib.rt:29:5
 slice-write-out : tie.Need-slice-write-out
 slice-write-out c = search needs
 
--- src/lib.rt:30:5
 add-result : tie.Need-add-result
 add-result c = search needs
 
--- src/lib.rt:23:1
 same-length : tie.Need-same-length
 same-length c = search needs
 
--- src/lib.rt:23:1
 returns : tie.Need-returns
 returns c =
     let a = c .before .before .before .before .before .before .before .before .args in
@@ -58,8 +47,7 @@ returns c =
     let src : take (length field - zeros .result) (drop (zeros .result) field) ≡ shorn field = part-from field (zeros .result) ∙ zeros .ensures .1 in
     let end : put .result ≡ a .at + length (shorn field) = put .ensures .0 ∙ ap (λ (l : List ℕ). a .at + length l) src in
     let new : put .last .1 .0 ≡ written (a .at) (shorn field) old = put .ensures .1 ∙ ap (λ (l : List ℕ). written (a .at) l old) src in
-    let room : a .at + length (shorn field) < length old = omega (arith, shorn-short field) in
-    (
+    let room : a .at + length (shorn field) < length old = omega (arith, shorn-short field) in (
       rw (length-append (shorn field) (32 ∷ [])) (omega (arith, end)),
       ap (λ (l : List ℕ). set l (put .result) 32) new ∙ ap (λ (k : ℕ). set (written (a .at) (shorn field) old) k 32) end ∙ byte-more (a .at) (shorn field) old 32 room,
     )

@@ -1,83 +1,63 @@
+-- `lines::reply` meets its contract.
+-- Assumes nothing.
+use Prim.Native.Nat.{_-_}
+use mathlib.Core.Path.{_≡_, refl, ap, _∙_}
+use lib.ListN.{length, take, drop}
+use borrow.Author.Needs.{needs}
 use Rattle.lines.proofs.LineReplies.{line-is, replied}
 use Rattle.lines.specs.Lines.{fieldsReply, lineReply}
 use Rattle.fields.proofs.Bytes.{cut-is, cut-long, past-is}
 use Rattle.fields.specs.Fields.{before, after}
-use lib.ListN.{length, take, drop}
-use Prim.Native.Nat.{ℕ, _-_}
-use mathlib.Core.Path.{_≡_, refl, sym, ap, _∙_}
-use mathlib.Core.List.{List}
-use borrow.Author.Needs.{needs}
 use Rattle.lines.proofs.reply.Statement.{statement}
 use Rattle.lines.proofs.reply.Tie as tie
-use Rattle.lines.proofs.reply.Reads as reads
-use Rattle.lines.proofs.reply.Lts as lts
-use Rattle.fields.proofs.cut.Reads as cut-reads
-use Rattle.fields.proofs.past.Reads as past-reads
-use Rattle.lines.proofs.reply_fields.Reads as reply-fields-reads
 
--- src/lib.rt:153:24
 past-requires : tie.Need-past-requires
 past-requires c κs = search needs
 
--- src/lib.rt:153:18
 sub-second : tie.Need-sub-second
 sub-second c = search needs
 
--- src/lib.rt:153:18
 part-second-start : tie.Need-part-second-start
 part-second-start c = search needs
 
--- src/lib.rt:153:18
 part-second-end : tie.Need-part-second-end
 part-second-end c = search needs
 
--- src/lib.rt:154:25
 past-requires-2 : tie.Need-past-requires-2
 past-requires-2 c κs = search needs
 
--- src/lib.rt:154:17
 sub-third : tie.Need-sub-third
 sub-third c = search needs
 
--- src/lib.rt:154:17
 part-third-start : tie.Need-part-third-start
 part-third-start c = search needs
 
--- src/lib.rt:154:17
 part-third-end : tie.Need-part-third-end
 part-third-end c = search needs
 
--- src/lib.rt:155:25
 past-requires-3 : tie.Need-past-requires-3
 past-requires-3 c κs = search needs
 
--- src/lib.rt:155:18
 sub-fourth : tie.Need-sub-fourth
 sub-fourth c = search needs
 
--- src/lib.rt:155:18
 part-fourth-start : tie.Need-part-fourth-start
 part-fourth-start c = search needs
 
--- src/lib.rt:155:18
 part-fourth-end : tie.Need-part-fourth-end
 part-fourth-end c = search needs
 
--- src/lib.rt:156:26
 cut-requires : tie.Need-cut-requires
 cut-requires c κs = search needs
 
--- src/lib.rt:156:9
 slice-aggregate-signal : tie.Need-slice-aggregate-signal
 slice-aggregate-signal c =
     let line = c .before .before .before .before .before .before .before .before .before .before .args .line .now in
     cut-long line (c .before .cut .result) (c .before .cut .ensures)
 
--- src/lib.rt:157:25
 cut-requires-2 : tie.Need-cut-requires-2
 cut-requires-2 c κs = search needs
 
--- src/lib.rt:157:9
 slice-aggregate-prn : tie.Need-slice-aggregate-prn
 slice-aggregate-prn c =
     let line = c .before .before .before .before .before .before .before .before .before .before .before .before .args .line .now in
@@ -85,11 +65,9 @@ slice-aggregate-prn c =
     let second = take (length line - p1 .result) (drop (p1 .result) line) in
     cut-long second (c .before .cut2 .result) (c .before .cut2 .ensures)
 
--- src/lib.rt:158:26
 cut-requires-3 : tie.Need-cut-requires-3
 cut-requires-3 c κs = search needs
 
--- src/lib.rt:158:9
 slice-aggregate-place : tie.Need-slice-aggregate-place
 slice-aggregate-place c =
     let line = c .before .before .before .before .before .before .before .before .before .before .before .before .before .before .args .line .now in
@@ -99,15 +77,12 @@ slice-aggregate-place c =
     let third = take (length second - p2 .result) (drop (p2 .result) second) in
     cut-long third (c .before .cut3 .result) (c .before .cut3 .ensures)
 
--- src/lib.rt:159:5
 reply-fields-requires : tie.Need-reply-fields-requires
 reply-fields-requires c κs = search needs
 
--- src/lib.rt:148:1
 same-length : tie.Need-same-length
 same-length c = search needs
 
--- src/lib.rt:148:1
 returns : tie.Need-returns
 returns c =
     let line = c .before .before .before .before .before .before .before .before .before .before .before .before .before .before .before .before .before .before .args .line .now in

@@ -1,38 +1,25 @@
+-- `lines::reply_fields` meets its contract.
+-- Assumes nothing.
+use mathlib.Core.Path.{_≡_, refl, sym, _∙_}
+use mathlib.Core.Bool.{true, false}
+use lib.Seq.{length-take-le}
+use lib.ListN.{replicate}
+use borrow.Author.Tests.{not-true, not-false}
+use borrow.Author.Needs.{needs}
 use Rattle.lines.proofs.LineReplies.{numbers, reply-malformed, reply-numbers, replied}
 use Rattle.lines.specs.Lines.{areNumbers, refusedWith, replyTo, fieldsReply}
-use Rattle.fields.specs.Fields.{value}
-use borrow.Author.Tests.{not-true, not-false}
-use lib.Seq.{length-take-le}
-use lib.ListN.{length, take, replicate}
-use Prim.Native.Nat.{ℕ, _≤_}
-use mathlib.Core.Path.{_≡_, refl, sym, ap, _∙_}
-use mathlib.Core.List.{List}
-use mathlib.Core.Bool.{true, false}
-use native.Mathlib.Omega.{arith}
-use borrow.Author.Needs.{needs}
 use Rattle.lines.proofs.reply_fields.Statement.{statement}
 use Rattle.lines.proofs.reply_fields.Tie as tie
-use Rattle.lines.proofs.reply_fields.Reads as reads
-use Rattle.lines.proofs.reply_fields.Lts as lts
-use Rattle.fields.proofs.value_of.Reads as value-of-reads
-use Rattle.lines.proofs.answer.Reads as answer-reads
-use Rattle.lines.proofs.are_numbers.Reads as are-numbers-reads
-use Rattle.lines.proofs.chip_count.Reads as chip-count-reads
-use Rattle.lines.proofs.refused.Reads as refused-reads
 
--- src/lib.rt:134:9
 are-numbers-requires : tie.Need-are-numbers-requires
 are-numbers-requires c κs = search needs
 
--- src/lib.rt:135:9
 refused-requires : tie.Need-refused-requires
 refused-requires c κs = search needs
 
--- src/lib.rt:135:9
 same-length : tie.Need-same-length
 same-length c = search needs
 
--- src/lib.rt:135:9
 returns : tie.Need-returns
 returns c =
     let a = c .before .before .before .before .before .before .before .before .before .before .before .args in
@@ -41,7 +28,6 @@ returns c =
     let bad : areNumbers (a .signal .now) (a .prn .now) (a .place .now) (a .count .now) ≡ false = sym (t .ensures) ∙ not-true (t .result) (c .before .before .before .before .if1 .taken) in
     replied (refusedWith 9) (fieldsReply (a .signal .now) (a .prn .now) (a .place .now) (a .count .now)) (a .out .now) (w .last .1 .0) (w .result) 10 (w .ensures .0) refl (w .ensures .1) (reply-malformed (a .signal .now) (a .prn .now) (a .place .now) (a .count .now) bad)
 
--- src/lib.rt:138:17
 value-of-requires : tie.Need-value-of-requires
 value-of-requires c κs =
     let a = c .before .before .before .before .before .before .before .args in
@@ -50,7 +36,6 @@ value-of-requires c κs =
     let all = numbers (a .signal .now) (a .prn .now) (a .place .now) (a .count .now) good in
     all .signal-is
 
--- src/lib.rt:139:14
 value-of-requires-2 : tie.Need-value-of-requires-2
 value-of-requires-2 c κs =
     let a = c .before .before .before .before .before .before .before .before .args in
@@ -59,7 +44,6 @@ value-of-requires-2 c κs =
     let all = numbers (a .signal .now) (a .prn .now) (a .place .now) (a .count .now) good in
     all .prn-is
 
--- src/lib.rt:140:16
 value-of-requires-3 : tie.Need-value-of-requires-3
 value-of-requires-3 c κs =
     let a = c .before .before .before .before .before .before .before .before .before .args in
@@ -68,7 +52,6 @@ value-of-requires-3 c κs =
     let all = numbers (a .signal .now) (a .prn .now) (a .place .now) (a .count .now) good in
     all .place-is
 
--- src/lib.rt:141:16
 value-of-requires-4 : tie.Need-value-of-requires-4
 value-of-requires-4 c κs =
     let a = c .before .before .before .before .before .before .before .before .before .before .args in
@@ -77,20 +60,16 @@ value-of-requires-4 c κs =
     let all = numbers (a .signal .now) (a .prn .now) (a .place .now) (a .count .now) good in
     all .count-is
 
--- src/lib.rt:144:52
 chip-count-requires : tie.Need-chip-count-requires
 chip-count-requires c κs = search needs
 
--- src/lib.rt:144:39
 array-borrow-prefix-chips : tie.Need-array-borrow-prefix-chips
 array-borrow-prefix-chips c = search needs
 
--- src/lib.rt:144:39
 slice-aggregate-answer : tie.Need-slice-aggregate-answer
 slice-aggregate-answer c =
     sym (length-take-le (c .before .chip-count .result) (replicate 64 0) (c .before .chip-count .ensures .1))
 
--- src/lib.rt:144:5
 answer-requires : tie.Need-answer-requires
 answer-requires c κs =
     let a = c .before .before .before .before .before .before .before .before .before .before .before .before .before .before .args in
@@ -99,11 +78,9 @@ answer-requires c κs =
     let all = numbers (a .signal .now) (a .prn .now) (a .place .now) (a .count .now) good in
     (all .signal-short, (all .prn-short, (all .place-short, (length-take-le (c .before .before .chip-count .result) (replicate 64 0) (c .before .before .chip-count .ensures .1) ∙ c .before .before .chip-count .ensures .0, c .before .before .before .before .before .before .before .before .before .before .before .before .before .before .pre))))
 
--- src/lib.rt:129:1
 same-length-2 : tie.Need-same-length-2
 same-length-2 c = search needs
 
--- src/lib.rt:129:1
 returns-2 : tie.Need-returns-2
 returns-2 c =
     let a = c .before .before .before .before .before .before .before .before .before .before .before .before .before .before .before .before .before .before .args in
