@@ -33,4 +33,5 @@ lib:
 test: lib
 	$(call need,$(firstword $(CC)),a C compiler ($(CC)))
 	@CC='$(CC)' tests/host/run.sh $(archive)
+	@tests/standards/run.sh
 	@rt ci

@@ -112,7 +112,11 @@ fn chip_count(count: u64) -> usize
     ensures { λ r. ⌜ r ≡ cond (isCount count) count 0 ⌝ }
     ensures { λ r. ⌜ r ≤ 64 ⌝ }
 {
-    if count <= MOST_COUNT as u64 { count as usize } else { 0 }
+    if count <= MOST_COUNT as u64 {
+        count as usize
+    } else {
+        0
+    }
 }
 
 // The reply to four numbers, given as many bytes for the chips as are asked for, or none where so many may not be asked for.

@@ -5,3 +5,4 @@ pub mod EpochOfP
 pub mod Differences
 pub mod Gaps
 pub mod EndValues
+pub mod Sizes

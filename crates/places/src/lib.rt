@@ -2,7 +2,7 @@
 // out. Numbers are tested whole before they are narrowed.
 ghost use mathlib.Core.Path.{_≡_};
 ghost use Prim.Native.Nat.{_<_};
-ghost use lib.IntN.{pos, negℤ, _+ℤ_, _-ℤ_};
+ghost use lib.IntN.{pos, negℤ, natAbs, _+ℤ_, _-ℤ_};
 ghost use mir.Syntax.{w64};
 ghost use mir.Val.{SFits};
 ghost use Rattle.places.specs.Places.{epochChips, ofRead, readingReply, ofPlaced, placeOfReply, foldedBy, folded, ofParted, gapReply};
@@ -142,4 +142,14 @@ pub fn gap(signal: u64, a: u64, b: u64) -> Parted
     }
     let chips = chips_between(week, a, b);
     Parted::By(chips)
+}
+
+// How many chips a gap is, whatever its sign. With the sign it can be written as text.
+pub fn size(chips: i64) -> u64
+    ensures { λ r. ⌜ r ≡ natAbs chips ⌝ }
+{
+    if chips < 0 {
+        return (-(chips + 1)) as u64 + 1;
+    }
+    chips as u64
 }
