@@ -1,22 +1,28 @@
-# `make run` does the main job, `make test` proves and tests everything. `make lib` writes the archive for C.
+# `make run` does the main job, `make test` proves and tests everything. `make lib` writes the archive for C, `make codes` the line program.
 
-.PHONY: run lib test
+.PHONY: run codes lib test
 
 archive := target/staticlib/libgps_chips.a
 header := include/gps_chips.h
 
-# What `make run` prints: SIGNAL PRN PLACE COUNT. Here the first twelve chips of P of PRN 1.
-CHIPS ?= 2 1 0 12
+# What `make run` asks for: SIGNAL PRN PLACE COUNT. Here the first twelve chips of P of PRN 1.
+LINE ?= 2 1 0 12
+export LINE
 
 need = @command -v $(1) >/dev/null || { echo 'make: $(2) is not on the PATH' >&2; exit 1; }
 
-# The line program, which reads such requests as lines, is to come; until then the C host program prints the chips of one.
-run: lib
-	$(call need,$(firstword $(CC)),a C compiler ($(CC)))
-	@mkdir -p target/host
-	@$(CC) -std=c99 -O2 -Iinclude host/chips.c $(archive) -o target/host/chips
-	@echo 'target/host/chips $(CHIPS)'
-	@target/host/chips $(CHIPS)
+# The line program, fed with a line.
+run: codes
+	@printf "echo '%s' | target/bin/codes\n" "$$LINE"
+	@printf '%s\n' "$$LINE" | target/bin/codes
+	@echo 'For more: type lines of SIGNAL PRN PLACE COUNT into target/bin/codes, or target/bin/codes <FILE >REPLIES'
+
+# Proves the line program and all below it, and builds it.
+codes:
+	$(call need,rt,the Rattle toolchain (rt))
+	@mkdir -p target
+	@echo 'proving codes and what it rests on, some three minutes the first time (target/codes.log)'
+	@rt check codes >target/codes.log 2>&1 || { cat target/codes.log >&2; exit 1; }
 
 # Proves the call for C and all below it, and writes it as an archive.
 lib:
@@ -28,10 +34,11 @@ lib:
 	@echo 'header:  $(header)'
 	@echo 'link:    cc prog.c -Iinclude $(archive)'
 
-# From nothing: the C side, then every proof, every wrong answer that has to be refused, every program.
-# The last line is rt's verdict, "N passed, 0 failed".
-test: lib
+# From nothing: the C side, the line program's reading and writing, the standards' tables; then every proof, every wrong answer that has to be refused,
+# every program. The last line is rt's verdict, "N passed, 0 failed".
+test: lib codes
 	$(call need,$(firstword $(CC)),a C compiler ($(CC)))
 	@CC='$(CC)' tests/host/run.sh $(archive)
+	@tests/codes/run.sh
 	@tests/standards/run.sh
 	@rt ci
