@@ -73,11 +73,11 @@ fn refused(n: u32, out: &mut [u8]) -> usize
 // ---- a line and its reply: the four fields are cut first, and all else speaks of them
 
 // What a line asks for.
-pub struct Asked {
-    pub signal: u64,
-    pub prn: u64,
-    pub place: u64,
-    pub count: u64,
+struct Asked {
+    signal: u64,
+    prn: u64,
+    place: u64,
+    count: u64,
 }
 
 fn are_numbers(signal: &[u8], prn: &[u8], place: &[u8], count: &[u8]) -> bool
@@ -189,7 +189,7 @@ fn reply(line: &[u8], out: &mut [u8]) -> usize
 
 // ---- the stream
 
-// The line that has no newline yet: its first 56 bytes, one more than the longest well-formed line has. So a line of any length takes no more memory.
+// The line that has no newline yet, or as much of it as is kept: a line of any length takes no more memory.
 pub struct Pending {
     pub bytes: [u8; KEPT],
     pub len: usize,
@@ -236,9 +236,9 @@ fn ended(s: Pending, out: &mut [u8], n: usize) -> usize
     n + k
 }
 
-pub struct Turned {
-    pub state: Pending,
-    pub n: usize,
+struct Turned {
+    state: Pending,
+    n: usize,
 }
 
 // One byte of input: what it says, from n on.
