@@ -8,7 +8,7 @@ use mathlib.Core.List.{List, [], _∷_, _++_, map, append-assoc}
 use mathlib.Core.Path.{_≡_, refl, sym, ap, _∙_}
 use native.Mathlib.Omega.{arith}
 use lib.Dec.{leb, ltb, eqb}
-use lib.ListN.{length, drop, length-append, length-map}
+use lib.ListN.{length, length-append, length-map}
 use borrow.Author.Tests.{leb-true, leb-false, le-leb, lt-leb, lt-ltb, ne-eqb}
 use Rattle.machine.specs.Signals.{weekOf}
 use Rattle.machine.specs.Machine.{isSignal, isPrn}
@@ -127,11 +127,6 @@ module _ (signal prn place count n : ℕ) (n-is : n ≡ cond (isCount count) cou
         = filled ∙ ap (λ (k : ℕ). cond (eqb (chipsAnswer signal prn place k) 0) (byTheMachine signal prn place k) chips) (sym long) ∙ made
         in
         rw (zero, written)
-
--- what stands at the buffer's start, known by another name
-pub replied : (x y old new : List ℕ) (r k : ℕ) → r ≡ k → k ≡ length x → new ≡ x ++ drop k old → x ≡ y → (r ≡ length y) × (new ≡ y ++ drop r old)
-replied x y old new r k r-is long new-is same =
-    (r-is ∙ long ∙ ap length same, new-is ∙ ap (λ (l : List ℕ). l ++ drop k old) same ∙ ap (λ (m : ℕ). y ++ drop m old) (sym r-is))
 
 -- ---- four fields
 

@@ -11,7 +11,7 @@
 -- Assumes nothing.
 use Prim.Native.Nat.{ℕ, _+_, _-_, _≤_, _<_}
 use mathlib.Core.List.{List, [], _∷_, _++_, map, map-append, append-assoc}
-use mathlib.Core.Path.{_≡_, refl, sym, ap, _∙_}
+use mathlib.Core.Path.{_≡_, refl, sym, ap, subst, _∙_}
 use native.Mathlib.Numerals.{add-one}
 use native.Mathlib.Nat.{zero-add, add-zero, add-assoc}
 use native.Mathlib.Omega.{arith}
@@ -19,6 +19,7 @@ use lib.ListN.{length, take, drop, getD, set, take-append-drop, length-append, l
 use lib.Seq.{set-split, take-all, take-at, drop-at, drop-drop, length-take-le, take-suc}
 use Rattle.engine.specs.Replies.{written}
 use Rattle.lines.specs.Lines.{chipDigit}
+use Rattle.lines.specs.Stream.{Begins}
 
 pub written-none : (n : ℕ) (l : List ℕ) → l ≡ written n [] l
 written-none n l = rw (add-zero n) (sym (take-append-drop n l))
@@ -75,34 +76,33 @@ part-from l n = take-all (length l - n) (drop n l) (rw (length-drop n l) (omega 
 
 -- ---- a list that stands at a buffer's start, before what the buffer had
 
-pub record Begins (x old new : List ℕ) (n : ℕ) : Type 0 where
-  pub long : n ≡ length x
-  pub is : new ≡ x ++ drop n old
-
 pub begins-none : (old : List ℕ) → Begins [] old old 0
-begins-none old = record { long = refl; is = refl }
+begins-none old = (refl, refl)
 
 pub begins-more : (x y old new after : List ℕ) (n m : ℕ) → Begins x old new n → m ≡ n + length y → after ≡ written n y new → Begins (x ++ y) old after m
-begins-more x y old new after n m b end wrote =
-    record {
-      long = end ∙ rw (length-append x y) (ap (λ (k : ℕ). k + length y) (b .long));
-      is = wrote ∙ ap (written n y) (b .is) ∙ written-behind x y old n (sym (b .long)) ∙ ap (λ (k : ℕ). (x ++ y) ++ drop k old) (sym end);
-    }
+begins-more x y old new after n m b end wrote = (
+  end ∙ rw (length-append x y) (ap (λ (k : ℕ). k + length y) (b .0)),
+  wrote ∙ ap (written n y) (b .1) ∙ written-behind x y old n (sym (b .0)) ∙ ap (λ (k : ℕ). (x ++ y) ++ drop k old) (sym end),
+)
+
+-- the list known by another name
+pub begins-as : (x y old new : List ℕ) (n : ℕ) → x ≡ y → Begins x old new n → Begins y old new n
+begins-as x y old new n same = subst (λ (l : List ℕ). Begins l old new n) same
 
 pub begins-byte : (x old new : List ℕ) (n b : ℕ) → Begins x old new n → n < length new → Begins (x ++ (b ∷ [])) old (set new n b) (n + 1)
 begins-byte x old new n b begins h = begins-more x (b ∷ []) old new (set new n b) n (n + 1) begins refl (written-one n b new h)
 
 pub begins-length : (x old new : List ℕ) (n : ℕ) → Begins x old new n → n ≤ length old → length new ≡ length old
-begins-length x old new n b h = ap length (b .is) ∙ simp (length-append, length-drop) (omega (arith, b .long))
+begins-length x old new n b h = ap length (b .1) ∙ simp (length-append, length-drop) (omega (arith, b .0))
 
 -- a buffer that stays as long has room for the list
 pub begins-fits : (x old new : List ℕ) (n : ℕ) → Begins x old new n → length new ≡ length old → n ≤ length old
 begins-fits x old new n b same =
-    let whole : length new ≡ length x + (length old - n) = ap length (b .is) ∙ simp (length-append, length-drop) in
-    omega (arith, whole, same, b .long)
+    let whole : length new ≡ length x + (length old - n) = ap length (b .1) ∙ simp (length-append, length-drop) in
+    omega (arith, whole, same, b .0)
 
 pub begins-within : (x old new : List ℕ) (n : ℕ) → Begins x old new n → n ≤ length new
-begins-within x old new n b = rw (b .is, length-append x (drop n old)) (omega (arith, b .long))
+begins-within x old new n b = rw (b .1, length-append x (drop n old)) (omega (arith, b .0))
 
 -- the same, with a bound of the list's length
 pub record Room (x old new : List ℕ) (n most : ℕ) : Type 0 where

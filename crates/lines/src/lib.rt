@@ -6,7 +6,7 @@ ghost use Prim.Native.Nat.{_≤_, _<_, _+_};
 ghost use lib.ListN.{length, take, drop};
 ghost use Rattle.engine.specs.Replies.{written};
 ghost use Rattle.lines.specs.Lines.{areNumbers, isCount, refusedWith, echoed, chipDigit, answeredWith, replyTo, fieldsReply, lineReply};
-ghost use Rattle.lines.specs.Stream.{next, said, rest, replies, lastReply, kept, held};
+ghost use Rattle.lines.specs.Stream.{next, said, rest, replies, lastReply, kept, held, Begins};
 
 // The most chips that a line may ask for.
 const MOST_COUNT: usize = 64;
@@ -62,8 +62,7 @@ fn put_chips(chips: &[u8], out: &mut [u8], at: usize) -> usize
 fn refused(n: u32, out: &mut [u8]) -> usize
     requires { ⌜ n ≤ 9 ⌝ }
     requires { ⌜ 10 ≤ length (now out) ⌝ }
-    ensures { λ r. ⌜ r ≡ 10 ⌝ }
-    ensures { λ r. ⌜ now (out .exit) ≡ refusedWith n ++ drop 10 (now (out .entry)) ⌝ }
+    ensures { λ r. ⌜ Begins (refusedWith n) (now (out .entry)) (now (out .exit)) r ⌝ }
 {
     let mut text = *b"refused N\n";
     text[8] = (48 + n) as u8;
@@ -96,8 +95,7 @@ fn answered(signal: &[u8], prn: &[u8], place: &[u8], chips: &[u8], out: &mut [u8
     requires { ⌜ length (now place) ≤ 13 ⌝ }
     requires { ⌜ length (now chips) ≤ 64 ⌝ }
     requires { ⌜ 128 ≤ length (now out) ⌝ }
-    ensures { λ r. ⌜ r ≡ length (answeredWith (now (signal .entry)) (now (prn .entry)) (now (place .entry)) (now (chips .entry))) ⌝ }
-    ensures { λ r. ⌜ now (out .exit) ≡ answeredWith (now (signal .entry)) (now (prn .entry)) (now (place .entry)) (now (chips .entry)) ++ drop r (now (out .entry)) ⌝ }
+    ensures { λ r. ⌜ Begins (answeredWith (now (signal .entry)) (now (prn .entry)) (now (place .entry)) (now (chips .entry))) (now (out .entry)) (now (out .exit)) r ⌝ }
 {
     let first = put_number(signal, out, 0);
     let second = put_number(prn, out, first);
@@ -133,8 +131,7 @@ fn answer(
     requires { ⌜ length (now place) ≤ 13 ⌝ }
     requires { ⌜ length (now chips) ≡ cond (isCount (asked .count)) (asked .count) 0 ⌝ }
     requires { ⌜ 128 ≤ length (now out) ⌝ }
-    ensures { λ r. ⌜ r ≡ length (replyTo (now (signal .entry)) (now (prn .entry)) (now (place .entry)) (asked .signal) (asked .prn) (asked .place) (asked .count)) ⌝ }
-    ensures { λ r. ⌜ now (out .exit) ≡ replyTo (now (signal .entry)) (now (prn .entry)) (now (place .entry)) (asked .signal) (asked .prn) (asked .place) (asked .count) ++ drop r (now (out .entry)) ⌝ }
+    ensures { λ r. ⌜ Begins (replyTo (now (signal .entry)) (now (prn .entry)) (now (place .entry)) (asked .signal) (asked .prn) (asked .place) (asked .count)) (now (out .entry)) (now (out .exit)) r ⌝ }
 {
     let refusal = gps_chips::gps_chips(asked.signal, asked.prn, asked.place, chips);
     if 0 < refusal {
@@ -149,8 +146,7 @@ fn answer(
 // The reply to four fields.
 fn reply_fields(signal: &[u8], prn: &[u8], place: &[u8], count: &[u8], out: &mut [u8]) -> usize
     requires { ⌜ 128 ≤ length (now out) ⌝ }
-    ensures { λ r. ⌜ r ≡ length (fieldsReply (now (signal .entry)) (now (prn .entry)) (now (place .entry)) (now (count .entry))) ⌝ }
-    ensures { λ r. ⌜ now (out .exit) ≡ fieldsReply (now (signal .entry)) (now (prn .entry)) (now (place .entry)) (now (count .entry)) ++ drop r (now (out .entry)) ⌝ }
+    ensures { λ r. ⌜ Begins (fieldsReply (now (signal .entry)) (now (prn .entry)) (now (place .entry)) (now (count .entry))) (now (out .entry)) (now (out .exit)) r ⌝ }
 {
     if !are_numbers(signal, prn, place, count) {
         return refused(9, out);
@@ -175,8 +171,7 @@ fn reply_fields(signal: &[u8], prn: &[u8], place: &[u8], count: &[u8], out: &mut
 // The reply to a line.
 fn reply(line: &[u8], out: &mut [u8]) -> usize
     requires { ⌜ 128 ≤ length (now out) ⌝ }
-    ensures { λ r. ⌜ r ≡ length (lineReply (now (line .entry))) ⌝ }
-    ensures { λ r. ⌜ now (out .exit) ≡ lineReply (now (line .entry)) ++ drop r (now (out .entry)) ⌝ }
+    ensures { λ r. ⌜ Begins (lineReply (now (line .entry))) (now (out .entry)) (now (out .exit)) r ⌝ }
 {
     let second = &line[fields::past(line)..];
     let third = &second[fields::past(second)..];
@@ -271,8 +266,7 @@ pub struct Fed {
 // Takes bytes of a chunk as long as the buffer has 128 bytes left, in which every reply fits, and writes their replies at the buffer's start.
 pub fn feed(s: Pending, input: &[u8], out: &mut [u8]) -> Fed
     ensures { λ r. ⌜ held (r .state) ≡ kept (rest (held s) (take (r .used) (now (input .entry)))) ⌝ }
-    ensures { λ r. ⌜ now (out .exit) ≡ replies (held s) (take (r .used) (now (input .entry))) ++ drop (r .n) (now (out .entry)) ⌝ }
-    ensures { λ r. ⌜ r .n ≡ length (replies (held s) (take (r .used) (now (input .entry)))) ⌝ }
+    ensures { λ r. ⌜ Begins (replies (held s) (take (r .used) (now (input .entry)))) (now (out .entry)) (now (out .exit)) (r .n) ⌝ }
     ensures { λ r. ⌜ (r .n ≤ length (now (out .entry))) × (r .used ≤ length (now (input .entry))) ⌝ }
     ensures { λ r. ⌜ (r .used < length (now (input .entry)) → length (now (out .entry)) < r .n + 128) ⌝ }
 {
@@ -301,8 +295,7 @@ pub fn feed(s: Pending, input: &[u8], out: &mut [u8]) -> Fed
 
 // What the end of the input says: nothing, or the refusal of a line that lacks its newline.
 pub fn finish(s: Pending, out: &mut [u8; 10]) -> usize
-    ensures { λ r. ⌜ r ≡ length (lastReply (held s)) ⌝ }
-    ensures { λ r. ⌜ now (out .exit) ≡ lastReply (held s) ++ drop r (now (out .entry)) ⌝ }
+    ensures { λ r. ⌜ Begins (lastReply (held s)) (now (out .entry)) (now (out .exit)) r ⌝ }
 {
     if s.len == 0 {
         return 0;

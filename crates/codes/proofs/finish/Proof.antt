@@ -15,12 +15,12 @@ finish-requires c κs = search needs
 array-share-prefix-out : tie.Need-array-share-prefix-out
 array-share-prefix-out c =
     let f = c .finish in
-    begins-within (lastReply (held (c .before .before .args .s))) (replicate 10 0) (f .last .1 .0) (f .result) (record { long = f .ensures .0; is = f .ensures .1 })
+    begins-within (lastReply (held (c .before .before .args .s))) (replicate 10 0) (f .last .1 .0) (f .result) (f .ensures)
 
 slice-aggregate-wrote : tie.Need-slice-aggregate-wrote
 slice-aggregate-wrote c =
     let f = c .before .finish in
-    let within = begins-within (lastReply (held (c .before .before .before .args .s))) (replicate 10 0) (f .last .1 .0) (f .result) (record { long = f .ensures .0; is = f .ensures .1 }) in
+    let within = begins-within (lastReply (held (c .before .before .before .args .s))) (replicate 10 0) (f .last .1 .0) (f .result) (f .ensures) in
     sym (length-take-le (f .result) (f .last .1 .0) within)
 
 wrote-requires : tie.Need-wrote-requires

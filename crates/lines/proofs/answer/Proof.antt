@@ -5,8 +5,9 @@ use mathlib.Core.Path.{_≡_, refl}
 use native.Mathlib.Omega.{arith}
 use lib.ListN.{length}
 use borrow.Author.Needs.{needs}
-use Rattle.lines.proofs.LineReplies.{few-asked, reply-refused, reply-no-count, reply-answered, replied}
+use Rattle.lines.proofs.LineReplies.{few-asked, reply-refused, reply-no-count, reply-answered}
 use Rattle.lines.specs.Lines.{refusedWith, answeredWith, replyTo}
+use Rattle.lines.proofs.Written.{begins-as}
 use Rattle.lines.proofs.answer.Statement.{statement}
 use Rattle.lines.proofs.answer.Tie as tie
 
@@ -40,7 +41,7 @@ returns c =
     let g = c .before .before .before .before .before .before .before .gps-chips in
     let w = c .before .before .refused in
     let refused = reply-refused (q .signal) (q .prn) (q .place) (q .count) n (pre .1 .1 .1 .0) (a .signal .now) (a .prn .now) (a .place .now) (g .result) (g .ensures .0) (c .before .before .before .before .if1 .taken) in
-    replied (refusedWith (g .result)) (replyTo (a .signal .now) (a .prn .now) (a .place .now) (q .signal) (q .prn) (q .place) (q .count)) (a .out .now) (w .last .1 .0) (w .result) 10 (w .ensures .0) refl (w .ensures .1) (refused .0)
+    begins-as (refusedWith (g .result)) (replyTo (a .signal .now) (a .prn .now) (a .place .now) (q .signal) (q .prn) (q .place) (q .count)) (a .out .now) (w .last .1 .0) (w .result) (refused .0) (w .ensures)
 
 refused-requires-2 : tie.Need-refused-requires-2
 refused-requires-2 c κs = search needs
@@ -62,7 +63,7 @@ returns-2 c =
     let w = c .before .before .refused2 in
     let none : n ≡ 0 = search needs in
     let refused = reply-no-count (q .signal) (q .prn) (q .place) (q .count) n (pre .1 .1 .1 .0) (a .signal .now) (a .prn .now) (a .place .now) (g .result) (g .ensures .0) (c .before .before .before .before .before .if1 .left) none in
-    replied (refusedWith 5) (replyTo (a .signal .now) (a .prn .now) (a .place .now) (q .signal) (q .prn) (q .place) (q .count)) (a .out .now) (w .last .1 .0) (w .result) 10 (w .ensures .0) refl (w .ensures .1) refused
+    begins-as (refusedWith 5) (replyTo (a .signal .now) (a .prn .now) (a .place .now) (q .signal) (q .prn) (q .place) (q .count)) (a .out .now) (w .last .1 .0) (w .result) refused (w .ensures)
 
 answered-requires : tie.Need-answered-requires
 answered-requires c κs =
@@ -92,7 +93,7 @@ returns-3 c =
     let w = c .before .before .answered in
     let some : n ≡ 0 → ⊥ = search needs in
     let made = reply-answered (q .signal) (q .prn) (q .place) (q .count) n (pre .1 .1 .1 .0) (a .signal .now) (a .prn .now) (a .place .now) (g .result) (g .ensures .0) (c .before .before .before .before .before .before .if1 .left) some (a .chips .now) (g .last .1 .1 .1 .0) refl (g .ensures .1 .0) in
-    replied (answeredWith (a .signal .now) (a .prn .now) (a .place .now) (g .last .1 .1 .1 .0)) (replyTo (a .signal .now) (a .prn .now) (a .place .now) (q .signal) (q .prn) (q .place) (q .count)) (a .out .now) (w .last .1 .1 .1 .1 .0) (w .result) (w .result) refl (w .ensures .0) (w .ensures .1) made
+    begins-as (answeredWith (a .signal .now) (a .prn .now) (a .place .now) (g .last .1 .1 .1 .0)) (replyTo (a .signal .now) (a .prn .now) (a .place .now) (q .signal) (q .prn) (q .place) (q .count)) (a .out .now) (w .last .1 .1 .1 .1 .0) (w .result) made (w .ensures)
 
 pub answer-spec : {M : Type 1} → statement M
 answer-spec =

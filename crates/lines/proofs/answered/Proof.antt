@@ -118,7 +118,7 @@ returns c =
     let r4 = room-more (((echoed (a .signal .now)) ++ echoed (a .prn .now)) ++ echoed (a .place .now)) (map chipDigit (a .chips .now)) old (w3 .last .1 .0) (w4 .last .1 .0) (w3 .result) (w4 .result) 42 64 r3 (w4 .ensures .0) (w4 .ensures .1) (digits-most (a .chips .now) (start .pre .1 .1 .1 .0)) (omega (arith, room)) in
     let end = begins-byte ((((echoed (a .signal .now)) ++ echoed (a .prn .now)) ++ echoed (a .place .now)) ++ map chipDigit (a .chips .now)) old (w4 .last .1 .0) (w4 .result) 10 (r4 .begins) (omega (arith, r4 .few, r4 .same, room)) in
     let whole = answered-is (a .signal .now) (a .prn .now) (a .place .now) (a .chips .now) in
-    (end .long ∙ ap length whole, end .is ∙ ap (λ (l : List ℕ). l ++ drop (w4 .result + 1) old) whole)
+    (end .0 ∙ ap length whole, end .1 ∙ ap (λ (l : List ℕ). l ++ drop (w4 .result + 1) old) whole)
 
 pub answered-spec : {M : Type 1} → statement M
 answered-spec =

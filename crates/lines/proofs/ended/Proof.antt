@@ -47,7 +47,7 @@ add-result c =
     let w = c .before .before .reply in
     let part = take (length old - a .n) (drop (a .n) old) in
     let same : length (w .last .1 .0) ≡ length part = search needs in
-    let fits : w .result ≤ length part = begins-fits (lineReply (take (c .before .before .before .before .before .held-length .result) (a .s .bytes))) part (w .last .1 .0) (w .result) (record { long = w .ensures .0; is = w .ensures .1 }) same in
+    let fits : w .result ≤ length part = begins-fits (lineReply (take (c .before .before .before .before .before .held-length .result) (a .s .bytes))) part (w .last .1 .0) (w .result) (w .ensures) same in
     let room : length part ≤ length old - a .n = omega (arith, length-take (length old - a .n) (drop (a .n) old)) in
     omega (arith, fits, room)
 

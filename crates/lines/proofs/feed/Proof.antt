@@ -28,7 +28,7 @@ same-length c = search needs
 returns : tie.Need-returns Inv-loop μ-loop
 returns c =
     let f = c .before .before .loop .inv in
-    (f .held-is, (f .begins .is, (f .begins .long, ((f .room, f .bound), λ h. omega arith))))
+    (f .held-is, (f .begins, ((f .room, f .bound), λ h. omega arith)))
 
 shared-slice-read-turn : tie.Need-shared-slice-read-turn Inv-loop μ-loop
 shared-slice-read-turn c = search needs
@@ -56,7 +56,7 @@ same-length-2 c = search needs
 returns-2 : tie.Need-returns-2 Inv-loop μ-loop
 returns-2 c =
     let f = c .before .loop .inv in
-    (f .held-is, (f .begins .is, (f .begins .long, ((f .room, f .bound), λ h. omega arith))))
+    (f .held-is, (f .begins, ((f .room, f .bound), λ h. omega arith)))
 
 pub feed-spec : {M : Type 1} → statement M
 feed-spec =

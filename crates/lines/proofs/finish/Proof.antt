@@ -1,14 +1,14 @@
 -- `lines::finish` meets its contract.
 -- Assumes nothing.
 use Prim.Native.Nat.{ℕ, _<_}
-use mathlib.Core.Path.{refl, sym, ap}
+use mathlib.Core.Path.{sym, ap}
 use mathlib.Core.List.{List, _++_}
 use lib.ListN.{length}
 use borrow.Author.Needs.{needs}
 use Rattle.lines.proofs.Streams.{none-held, some-held}
-use Rattle.lines.proofs.LineReplies.{replied}
 use Rattle.lines.specs.Stream.{lastReply, held}
 use Rattle.lines.specs.Lines.{refusedWith}
+use Rattle.lines.proofs.Written.{begins-as}
 use Rattle.lines.proofs.finish.Statement.{statement}
 use Rattle.lines.proofs.finish.Tie as tie
 
@@ -27,7 +27,7 @@ returns-2 c =
     let s = a .s in
     let w = c .refused in
     let long : 0 < length (s .bytes) = search needs in
-    replied (refusedWith 9) (lastReply (held s)) (a .out .now) (w .last .1 .0) (w .result) 10 (w .ensures .0) refl (w .ensures .1) (sym (some-held (s .len) (s .bytes) long (c .before .before .if1 .left)))
+    begins-as (refusedWith 9) (lastReply (held s)) (a .out .now) (w .last .1 .0) (w .result) (sym (some-held (s .len) (s .bytes) long (c .before .before .if1 .left))) (w .ensures)
 
 pub finish-spec : {M : Type 1} → statement M
 finish-spec = tie.close (tie.spec returns refused-requires returns-2)

@@ -1,13 +1,14 @@
 -- `lines::reply` meets its contract.
 -- Assumes nothing.
 use Prim.Native.Nat.{_-_}
-use mathlib.Core.Path.{_≡_, refl, ap, _∙_}
+use mathlib.Core.Path.{_≡_, ap, _∙_}
 use lib.ListN.{length, take, drop}
 use borrow.Author.Needs.{needs}
-use Rattle.lines.proofs.LineReplies.{line-is, replied}
+use Rattle.lines.proofs.LineReplies.{line-is}
 use Rattle.lines.specs.Lines.{fieldsReply, lineReply}
 use Rattle.fields.proofs.Bytes.{cut-is, cut-long, past-is}
 use Rattle.fields.specs.Fields.{before, after}
+use Rattle.lines.proofs.Written.{begins-as}
 use Rattle.lines.proofs.reply.Statement.{statement}
 use Rattle.lines.proofs.reply.Tie as tie
 
@@ -109,7 +110,7 @@ returns c =
     (cut-is third (c3 .result) (c3 .ensures) ∙ ap before third-is)
     fourth-is
     in
-    replied (fieldsReply signal prn place fourth) (lineReply line) (c .before .before .before .before .before .before .before .before .before .before .before .before .before .before .before .before .before .before .args .out .now) (w .last .1 .1 .1 .1 .0) (w .result) (w .result) refl (w .ensures .0) (w .ensures .1) same
+    begins-as (fieldsReply signal prn place fourth) (lineReply line) (c .before .before .before .before .before .before .before .before .before .before .before .before .before .before .before .before .before .before .args .out .now) (w .last .1 .1 .1 .1 .0) (w .result) same (w .ensures)
 
 pub reply-spec : {M : Type 1} → statement M
 reply-spec =

@@ -1,13 +1,14 @@
 -- `lines::reply_fields` meets its contract.
 -- Assumes nothing.
-use mathlib.Core.Path.{_≡_, refl, sym, _∙_}
+use mathlib.Core.Path.{_≡_, sym, _∙_}
 use mathlib.Core.Bool.{true, false}
 use lib.Seq.{length-take-le}
 use lib.ListN.{replicate}
 use borrow.Author.Tests.{not-true, not-false}
 use borrow.Author.Needs.{needs}
-use Rattle.lines.proofs.LineReplies.{numbers, reply-malformed, reply-numbers, replied}
+use Rattle.lines.proofs.LineReplies.{numbers, reply-malformed, reply-numbers}
 use Rattle.lines.specs.Lines.{areNumbers, refusedWith, replyTo, fieldsReply}
+use Rattle.lines.proofs.Written.{begins-as}
 use Rattle.lines.proofs.reply_fields.Statement.{statement}
 use Rattle.lines.proofs.reply_fields.Tie as tie
 
@@ -26,7 +27,7 @@ returns c =
     let t = c .before .before .before .before .before .are-numbers in
     let w = c .before .before .refused in
     let bad : areNumbers (a .signal .now) (a .prn .now) (a .place .now) (a .count .now) ≡ false = sym (t .ensures) ∙ not-true (t .result) (c .before .before .before .before .if1 .taken) in
-    replied (refusedWith 9) (fieldsReply (a .signal .now) (a .prn .now) (a .place .now) (a .count .now)) (a .out .now) (w .last .1 .0) (w .result) 10 (w .ensures .0) refl (w .ensures .1) (reply-malformed (a .signal .now) (a .prn .now) (a .place .now) (a .count .now) bad)
+    begins-as (refusedWith 9) (fieldsReply (a .signal .now) (a .prn .now) (a .place .now) (a .count .now)) (a .out .now) (w .last .1 .0) (w .result) (reply-malformed (a .signal .now) (a .prn .now) (a .place .now) (a .count .now) bad) (w .ensures)
 
 value-of-requires : tie.Need-value-of-requires
 value-of-requires c κs =
@@ -94,7 +95,7 @@ returns-2 c =
     let v4 = c .before .before .before .before .before .before .before .value-of4 in
     let x = replyTo (a .signal .now) (a .prn .now) (a .place .now) (v1 .result) (v2 .result) (v3 .result) (v4 .result) in
     let same : x ≡ fieldsReply (a .signal .now) (a .prn .now) (a .place .now) (a .count .now) = rw (v1 .ensures, v2 .ensures, v3 .ensures, v4 .ensures) (reply-numbers (a .signal .now) (a .prn .now) (a .place .now) (a .count .now) good) in
-    replied x (fieldsReply (a .signal .now) (a .prn .now) (a .place .now) (a .count .now)) (a .out .now) (w .last .1 .1 .1 .1 .1 .0) (w .result) (w .result) refl (w .ensures .0) (w .ensures .1) same
+    begins-as x (fieldsReply (a .signal .now) (a .prn .now) (a .place .now) (a .count .now)) (a .out .now) (w .last .1 .1 .1 .1 .1 .0) (w .result) same (w .ensures)
 
 pub reply-fields-spec : {M : Type 1} → statement M
 reply-fields-spec =
