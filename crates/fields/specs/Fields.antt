@@ -1,4 +1,5 @@
--- The fields of a line of text, as bytes: what stands before and after a space, and which number digits stand for. Document 01, "Line program".
+-- The fields of a line of text, as bytes: what stands before and after a space, and which number digits stand for. Document 01, "Line program". Bytes are
+-- those of ASCII: 32 is a space, 48 to 57 are the digits.
 -- Assumes nothing.
 use Prim.Native.Nat.{ℕ, _+_, _-_, _*_}
 use mathlib.Core.Bool.{Bool, true, cond, _&&_}
@@ -16,7 +17,7 @@ abbrev pub after : List ℕ → List ℕ
 after [] = []
 after (b ∷ bs) = cond (eqb b 32) bs (after bs)
 
--- 0 to 9, as bytes 48 to 57
+-- 0 to 9
 abbrev pub digit : ℕ → Bool
 digit b = leb 48 b && leb b 57
 

@@ -1,6 +1,9 @@
 -- What a line is answered.
---     few, many                        the count of chips that a line asks for
---     refused-by-chips, refused-for-count, not-refused   what Chips refuses, and what the count
+--     few, many, few-asked                            how many chips Chips is asked for
+--     echoed-most, digits-most, answered-is           the parts of an answer, how long they are, and that together they are the answer
+--     reply-refused, reply-no-count, reply-answered   the reply to four numbers: refused by Chips, for its count, or answered
+--     reply-malformed, reply-numbers, numbers         the reply to four fields
+--     line-is, long-refused                           the reply to a line, and that one of more than 55 bytes is refused
 -- Assumes nothing.
 use Prim.Native.Nat.{ℕ, _+_, _≤_, _<_}
 use mathlib.Core.Bool.{Bool, true, false, cond, _&&_, false≢true}
@@ -18,7 +21,7 @@ use Rattle.gps_chips.proofs.Answers.{Admitted, admitted}
 use Rattle.machine.proofs.Tests.{four}
 use Rattle.fields.specs.Fields.{after, isNumber, value, shorn}
 use Rattle.fields.proofs.Bytes.{number-is, sides-whole, shorn-short}
-use Rattle.lines.specs.Lines.{signalField, prnField, placeField, countField, isCount, lineRefusal, refusedWith, echoed, chipDigit, answeredWith, replyTo, areNumbers, fieldsReply, lineReply}
+use Rattle.lines.specs.Lines.{signalField, prnField, placeField, countField, isCount, lineRefusal, refusedLine, echoed, chipDigit, answeredWith, replyTo, areNumbers, fieldsReply, lineReply}
 
 -- ---- the count
 
@@ -102,12 +105,12 @@ module _ (signal prn place count n : ℕ) (n-is : n ≡ cond (isCount count) cou
     abbrev whole : List ℕ
     whole = replyTo signalField prnField placeField signal prn place count
 
-    pub reply-refused : (r : ℕ) → r ≡ chipsAnswer signal prn place n → 0 < r → (refusedWith r ≡ whole) × (r ≤ 3)
+    pub reply-refused : (r : ℕ) → r ≡ chipsAnswer signal prn place n → 0 < r → (refusedLine r ≡ whole) × (r ≤ 3)
     reply-refused r e some =
         let same = refused-too r e some in
         (rw (same .0, ne-eqb r 0 (λ none. omega (arith, some, none))), same .1)
 
-    pub reply-no-count : (r : ℕ) → r ≡ chipsAnswer signal prn place n → r ≤ 0 → n ≡ 0 → refusedWith 5 ≡ whole
+    pub reply-no-count : (r : ℕ) → r ≡ chipsAnswer signal prn place n → r ≤ 0 → n ≡ 0 → refusedLine 5 ≡ whole
     reply-no-count r e accepted none =
         let five : lineRefusal signal prn place count ≡ 5 = by-count (admitted signal prn place n r e accepted) ∙ rw (none-asked none) in
         rw five
@@ -131,7 +134,7 @@ module _ (signal prn place count n : ℕ) (n-is : n ≡ cond (isCount count) cou
 -- ---- four fields
 
 module _ (signal prn place count : List ℕ) where
-  pub reply-malformed : areNumbers signal prn place count ≡ false → refusedWith 9 ≡ fieldsReply signal prn place count
+  pub reply-malformed : areNumbers signal prn place count ≡ false → refusedLine 9 ≡ fieldsReply signal prn place count
   unfolding fieldsReply
   reply-malformed bad = rw bad
 
@@ -173,7 +176,7 @@ unfolding lineReply
 line-is line signal prn place count s p q n = rw (s, p, q, n)
 
 -- the longest well-formed line has 55 bytes: four times 13 digits, and three spaces
-pub long-refused : (line : List ℕ) → 55 < length line → lineReply line ≡ refusedWith 9
+pub long-refused : (line : List ℕ) → 55 < length line → lineReply line ≡ refusedLine 9
 unfolding lineReply
 long-refused line long =
     sym (reply-malformed (signalField line) (prnField line) (placeField line) (countField line) (by (areNumbers (signalField line) (prnField line) (placeField line) (countField line)) refl))

@@ -1,4 +1,10 @@
--- The line that is not ended yet, and the replies of a stream.
+-- The line that has no newline yet, and the replies of a stream.
+--     full, one-more, held-again                             the bytes that a state holds
+--     newline-next, newline-said, other-next, other-said     what one byte does
+--     kept-reply, kept-said, kept-next, kept-twice           56 bytes of a line are enough
+--     replies-append, rest-append                            the replies of two inputs, one after the other
+--     FedSoFar, fed-none, fed-more, fed-some                 the loop over a chunk
+--     none-held, some-held                                   the end of the input
 -- Assumes nothing.
 use Prim.Native.Nat.{ℕ, zero, suc, _+_, _≤_, _<_}
 use mathlib.Core.Bool.{Bool, true, false, cond}
@@ -11,7 +17,7 @@ use lib.ListN.{length, take, getD, set, length-append, length-take}
 use lib.Seq.{take-all, take-take, take-suc-set, take-append-le, length-take-le, take-suc}
 use borrow.Author.Tests.{leb-true, leb-false, eq-eqb, ne-eqb}
 use Rattle.engine.specs.Replies.{written}
-use Rattle.lines.specs.Lines.{refusedWith, lineReply}
+use Rattle.lines.specs.Lines.{refusedLine, lineReply}
 use Rattle.lines.specs.Stream.{next, said, rest, replies, lastReply, kept, held, Begins}
 use Rattle.lines.specs.declared.Pending.{Pending}
 use Rattle.lines.proofs.LineReplies.{long-refused}
@@ -163,7 +169,7 @@ fed-some line input (suc used) n size long full room some = omega arith
 pub none-held : (n : ℕ) (l : List ℕ) → n ≡ 0 → lastReply (take n l) ≡ []
 none-held n l e = rw e
 
-pub some-held : (n : ℕ) (l : List ℕ) → 0 < length l → (n ≡ 0 → ⊥) → lastReply (take n l) ≡ refusedWith 9
+pub some-held : (n : ℕ) (l : List ℕ) → 0 < length l → (n ≡ 0 → ⊥) → lastReply (take n l) ≡ refusedLine 9
 some-held zero l some h = absurd (h refl)
 some-held (suc n) [] some h = absurd (omega (arith, some))
 some-held (suc n) (x ∷ l) some h = refl

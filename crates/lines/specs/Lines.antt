@@ -1,4 +1,5 @@
--- A line of the line program and its reply, as bytes, for every line: document 01, "Line program".
+-- A line of the line program and its reply, as bytes, for every line: document 01, "Line program". Bytes are those of ASCII: 10 is a newline, 32 a
+-- space, 48 to 57 are the digits.
 -- Assumes nothing.
 use Prim.Native.Nat.{ℕ, _+_}
 use mathlib.Core.Bool.{Bool, cond, _&&_}
@@ -20,9 +21,12 @@ prnField line = before (after line)
 abbrev pub placeField : List ℕ → List ℕ
 placeField line = before (after (after line))
 
--- all that is left: a further space is in it, and no digit
+-- all that is left; a fourth space would be in it, and is no digit
 abbrev pub countField : List ℕ → List ℕ
 countField line = after (after (after line))
+
+abbrev pub areNumbers : List ℕ → List ℕ → List ℕ → List ℕ → Bool
+areNumbers signal prn place count = isNumber signal && isNumber prn && isNumber place && isNumber count
 
 -- ---- what is refused: "then 1, 2, 3; then 5 for a count of 0 or above 64"; 0 where nothing is
 
@@ -36,8 +40,8 @@ lineRefusal signal prn place count =
 -- ---- the reply: "Each output line ends in a newline."
 
 -- `refused N`, of one digit
-abbrev pub refusedWith : ℕ → List ℕ
-refusedWith n = 114 ∷ 101 ∷ 102 ∷ 117 ∷ 115 ∷ 101 ∷ 100 ∷ 32 ∷ (48 + n) ∷ 10 ∷ []
+abbrev pub refusedLine : ℕ → List ℕ
+refusedLine n = 114 ∷ 101 ∷ 102 ∷ 117 ∷ 115 ∷ 101 ∷ 100 ∷ 32 ∷ (48 + n) ∷ 10 ∷ []
 
 -- "the first three numbers as read, leading zeros dropped", each with the space after it
 abbrev pub echoed : List ℕ → List ℕ
@@ -51,20 +55,17 @@ chipDigit chip = cond (eqb chip 0) 48 49
 abbrev pub answeredWith : List ℕ → List ℕ → List ℕ → List ℕ → List ℕ
 answeredWith signal prn place chips = echoed signal ++ (echoed prn ++ (echoed place ++ (map chipDigit chips ++ (10 ∷ []))))
 
--- three fields as read, and the four numbers
+-- given the first three fields, and the four numbers
 abbrev pub replyTo : List ℕ → List ℕ → List ℕ → ℕ → ℕ → ℕ → ℕ → List ℕ
 replyTo signalField prnField placeField signal prn place count =
     cond (eqb (lineRefusal signal prn place count) 0)
     (answeredWith signalField prnField placeField (byTheMachine signal prn place count))
-    (refusedWith (lineRefusal signal prn place count))
-
-abbrev pub areNumbers : List ℕ → List ℕ → List ℕ → List ℕ → Bool
-areNumbers signal prn place count = isNumber signal && isNumber prn && isNumber place && isNumber count
+    (refusedLine (lineRefusal signal prn place count))
 
 -- "9: a line of another form", judged first
 unfoldable pub fieldsReply : List ℕ → List ℕ → List ℕ → List ℕ → List ℕ
 fieldsReply signal prn place count =
-    cond (areNumbers signal prn place count) (replyTo signal prn place (value signal) (value prn) (value place) (value count)) (refusedWith 9)
+    cond (areNumbers signal prn place count) (replyTo signal prn place (value signal) (value prn) (value place) (value count)) (refusedLine 9)
 
 unfoldable pub lineReply : List ℕ → List ℕ
 lineReply line = fieldsReply (signalField line) (prnField line) (placeField line) (countField line)

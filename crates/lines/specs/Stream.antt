@@ -6,7 +6,7 @@ use mathlib.Core.List.{List, [], _∷_, _++_}
 use mathlib.Core.Path.{_≡_}
 use lib.Dec.{eqb}
 use lib.ListN.{length, take, drop}
-use Rattle.lines.specs.Lines.{lineReply, refusedWith}
+use Rattle.lines.specs.Lines.{lineReply, refusedLine}
 use Rattle.lines.specs.declared.Pending.{Pending}
 
 -- the bytes of the line that has no newline yet, after one byte more
@@ -29,7 +29,7 @@ replies line (b ∷ bs) = said line b ++ replies (next line b) bs
 -- what the end of the input has it say: "9: a line of another form, a last one lacking its newline included"
 abbrev pub lastReply : List ℕ → List ℕ
 lastReply [] = []
-lastReply (b ∷ bs) = refusedWith 9
+lastReply (b ∷ bs) = refusedLine 9
 
 -- the whole output for a whole input
 abbrev pub answers : List ℕ → List ℕ

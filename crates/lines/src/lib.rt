@@ -5,7 +5,7 @@ ghost use mathlib.Core.List.{[], _∷_, map, _++_};
 ghost use Prim.Native.Nat.{_≤_, _<_, _+_};
 ghost use lib.ListN.{length, take, drop};
 ghost use Rattle.engine.specs.Replies.{written};
-ghost use Rattle.lines.specs.Lines.{areNumbers, isCount, refusedWith, echoed, chipDigit, answeredWith, replyTo, fieldsReply, lineReply};
+ghost use Rattle.lines.specs.Lines.{areNumbers, isCount, refusedLine, echoed, chipDigit, answeredWith, replyTo, fieldsReply, lineReply};
 ghost use Rattle.lines.specs.Stream.{next, said, rest, replies, lastReply, kept, held, Begins};
 
 // The most chips that a line may ask for.
@@ -62,7 +62,7 @@ fn put_chips(chips: &[u8], out: &mut [u8], at: usize) -> usize
 fn refused(n: u32, out: &mut [u8]) -> usize
     requires { ⌜ n ≤ 9 ⌝ }
     requires { ⌜ 10 ≤ length (now out) ⌝ }
-    ensures { λ r. ⌜ Begins (refusedWith n) (now (out .entry)) (now (out .exit)) r ⌝ }
+    ensures { λ r. ⌜ Begins (refusedLine n) (now (out .entry)) (now (out .exit)) r ⌝ }
 {
     let mut text = *b"refused N\n";
     text[8] = (48 + n) as u8;

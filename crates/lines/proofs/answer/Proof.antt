@@ -6,7 +6,7 @@ use native.Mathlib.Omega.{arith}
 use lib.ListN.{length}
 use borrow.Author.Needs.{needs}
 use Rattle.lines.proofs.LineReplies.{few-asked, reply-refused, reply-no-count, reply-answered}
-use Rattle.lines.specs.Lines.{refusedWith, answeredWith, replyTo}
+use Rattle.lines.specs.Lines.{refusedLine, answeredWith, replyTo}
 use Rattle.lines.proofs.Written.{begins-as}
 use Rattle.lines.proofs.answer.Statement.{statement}
 use Rattle.lines.proofs.answer.Tie as tie
@@ -41,7 +41,7 @@ returns c =
     let g = c .before .before .before .before .before .before .before .gps-chips in
     let w = c .before .before .refused in
     let refused = reply-refused (q .signal) (q .prn) (q .place) (q .count) n (pre .1 .1 .1 .0) (a .signal .now) (a .prn .now) (a .place .now) (g .result) (g .ensures .0) (c .before .before .before .before .if1 .taken) in
-    begins-as (refusedWith (g .result)) (replyTo (a .signal .now) (a .prn .now) (a .place .now) (q .signal) (q .prn) (q .place) (q .count)) (a .out .now) (w .last .1 .0) (w .result) (refused .0) (w .ensures)
+    begins-as (refusedLine (g .result)) (replyTo (a .signal .now) (a .prn .now) (a .place .now) (q .signal) (q .prn) (q .place) (q .count)) (a .out .now) (w .last .1 .0) (w .result) (refused .0) (w .ensures)
 
 refused-requires-2 : tie.Need-refused-requires-2
 refused-requires-2 c κs = search needs
@@ -63,7 +63,7 @@ returns-2 c =
     let w = c .before .before .refused2 in
     let none : n ≡ 0 = search needs in
     let refused = reply-no-count (q .signal) (q .prn) (q .place) (q .count) n (pre .1 .1 .1 .0) (a .signal .now) (a .prn .now) (a .place .now) (g .result) (g .ensures .0) (c .before .before .before .before .before .if1 .left) none in
-    begins-as (refusedWith 5) (replyTo (a .signal .now) (a .prn .now) (a .place .now) (q .signal) (q .prn) (q .place) (q .count)) (a .out .now) (w .last .1 .0) (w .result) refused (w .ensures)
+    begins-as (refusedLine 5) (replyTo (a .signal .now) (a .prn .now) (a .place .now) (q .signal) (q .prn) (q .place) (q .count)) (a .out .now) (w .last .1 .0) (w .result) refused (w .ensures)
 
 answered-requires : tie.Need-answered-requires
 answered-requires c κs =

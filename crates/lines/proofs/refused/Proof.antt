@@ -3,7 +3,7 @@
 use mathlib.Core.List.{[]}
 use borrow.Author.Needs.{needs}
 use Rattle.lines.proofs.Written.{begins-none, begins-more}
-use Rattle.lines.specs.Lines.{refusedWith}
+use Rattle.lines.specs.Lines.{refusedLine}
 use Rattle.lines.proofs.refused.Statement.{statement}
 use Rattle.lines.proofs.refused.Tie as tie
 
@@ -29,7 +29,7 @@ returns : tie.Need-returns
 returns c =
     let a = c .before .before .before .before .before .before .before .before .args in
     let w = c .before .before .put in
-    begins-more [] (refusedWith (a .n)) (a .out .now) (a .out .now) (w .last .1 .0) 0 (w .result) (begins-none (a .out .now)) (w .ensures .0) (w .ensures .1)
+    begins-more [] (refusedLine (a .n)) (a .out .now) (a .out .now) (w .last .1 .0) 0 (w .result) (begins-none (a .out .now)) (w .ensures .0) (w .ensures .1)
 
 pub refused-spec : {M : Type 1} → statement M
 refused-spec =

@@ -7,7 +7,7 @@ use lib.ListN.{replicate}
 use borrow.Author.Tests.{not-true, not-false}
 use borrow.Author.Needs.{needs}
 use Rattle.lines.proofs.LineReplies.{numbers, reply-malformed, reply-numbers}
-use Rattle.lines.specs.Lines.{areNumbers, refusedWith, replyTo, fieldsReply}
+use Rattle.lines.specs.Lines.{areNumbers, refusedLine, replyTo, fieldsReply}
 use Rattle.lines.proofs.Written.{begins-as}
 use Rattle.lines.proofs.reply_fields.Statement.{statement}
 use Rattle.lines.proofs.reply_fields.Tie as tie
@@ -27,7 +27,7 @@ returns c =
     let t = c .before .before .before .before .before .are-numbers in
     let w = c .before .before .refused in
     let bad : areNumbers (a .signal .now) (a .prn .now) (a .place .now) (a .count .now) ≡ false = sym (t .ensures) ∙ not-true (t .result) (c .before .before .before .before .if1 .taken) in
-    begins-as (refusedWith 9) (fieldsReply (a .signal .now) (a .prn .now) (a .place .now) (a .count .now)) (a .out .now) (w .last .1 .0) (w .result) (reply-malformed (a .signal .now) (a .prn .now) (a .place .now) (a .count .now) bad) (w .ensures)
+    begins-as (refusedLine 9) (fieldsReply (a .signal .now) (a .prn .now) (a .place .now) (a .count .now)) (a .out .now) (w .last .1 .0) (w .result) (reply-malformed (a .signal .now) (a .prn .now) (a .place .now) (a .count .now) bad) (w .ensures)
 
 value-of-requires : tie.Need-value-of-requires
 value-of-requires c κs =
