@@ -1,12 +1,14 @@
 -- Fields and numbers, one byte further on: what the loops over a slice need, which at byte i have `drop i` of it before them.
 --     before-stop, before-more, before-end    the bytes before a space
 --     take-before, after-drop, after-none     what stands before it and after it, as parts
---     cut-is, cut-long, past-is               the same of the parts that `cut` and `past` find
+--     before-short, sides-whole               how long these are
+--     cut-is, cut-long, part-from, past-is    the same of the parts that `cut` and `past` find
 --     digits-go, digits-stop, digits-end      digits
 --     digit-at, value-more, value-end         the number that they stand for
 --     number-is                               a number has at most 13 of them
 --     ten-more, ten-small                     how large it is
---     shorn-go, shorn-stop, shorn-end, shorn-short   leading zeros
+--     shorn-go, shorn-stop, shorn-end         leading zeros
+--     shorn-short                             how long a number without them is
 -- Assumes nothing.
 use Prim.Native.Nat.{ℕ, suc, _+_, _-_, _*_, _^_, _≤_, _<_}
 use mathlib.Core.Bool.{Bool, true, false, cond, _&&_, and-eq-true-iff}
@@ -84,9 +86,13 @@ cut-is l n e = ap (λ (k : ℕ). take k l) e ∙ take-before l
 pub cut-long : (l : List ℕ) (n : ℕ) → n ≡ length (before l) → n ≡ length (take n l)
 cut-long l n e = e ∙ sym (ap length (cut-is l n e))
 
--- and the part that `past` finds
+-- the part of a slice from a place on
+pub part-from : (l : List ℕ) (n : ℕ) → take (length l - n) (drop n l) ≡ drop n l
+part-from l n = take-all (length l - n) (drop n l) (rw (length-drop n l) (omega arith))
+
+-- the part that `past` finds
 pub past-is : (l : List ℕ) (n : ℕ) → drop n l ≡ after l → take (length l - n) (drop n l) ≡ after l
-past-is l n e = take-all (length l - n) (drop n l) (rw (length-drop n l) (omega arith)) ∙ e
+past-is l n e = part-from l n ∙ e
 
 -- ---- digits
 

@@ -5,7 +5,6 @@
 --     written-behind               behind a list that stands before what the buffer had
 --     written-join                 more bytes behind those written
 --     byte-more, chip-more         one byte behind them, and one chip as text
---     part-from                    the part of a slice from a place on
 --     Begins                       a list stands at the buffer's start: none, more bytes written behind it, one byte, and the length
 --     Room                         the same, with a bound of its length
 -- Assumes nothing.
@@ -16,7 +15,7 @@ use native.Mathlib.Numerals.{add-one}
 use native.Mathlib.Nat.{zero-add, add-zero, add-assoc}
 use native.Mathlib.Omega.{arith}
 use lib.ListN.{length, take, drop, getD, set, take-append-drop, length-append, length-drop, length-map}
-use lib.Seq.{set-split, take-all, take-at, drop-at, drop-drop, length-take-le, take-suc}
+use lib.Seq.{set-split, take-at, drop-at, drop-drop, length-take-le, take-suc}
 use Rattle.engine.specs.Replies.{written}
 use Rattle.lines.specs.Lines.{chipDigit}
 use Rattle.lines.specs.Stream.{Begins}
@@ -69,10 +68,6 @@ chip-more chips old n i h room =
     ap (λ (k : ℕ). set (written n x old) (n + k) b) (sym long)
     ∙ byte-more n x old b (omega (arith, long))
     ∙ ap (λ (y : List ℕ). written n y old) more
-
--- the part of a slice from a place on
-pub part-from : (l : List ℕ) (n : ℕ) → take (length l - n) (drop n l) ≡ drop n l
-part-from l n = take-all (length l - n) (drop n l) (rw (length-drop n l) (omega arith))
 
 -- ---- a list that stands at a buffer's start, before what the buffer had
 

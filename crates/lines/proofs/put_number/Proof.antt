@@ -6,10 +6,10 @@ use mathlib.Core.List.{List, [], _∷_}
 use native.Mathlib.Omega.{arith}
 use lib.ListN.{length, take, drop, set, length-append}
 use borrow.Author.Needs.{needs}
-use Rattle.lines.proofs.Written.{byte-more, part-from}
+use Rattle.lines.proofs.Written.{byte-more}
 use Rattle.engine.specs.Replies.{written}
 use Rattle.fields.specs.Fields.{shorn}
-use Rattle.fields.proofs.Bytes.{shorn-short}
+use Rattle.fields.proofs.Bytes.{part-from, shorn-short}
 use Rattle.lines.proofs.put_number.Statement.{statement}
 use Rattle.lines.proofs.put_number.Tie as tie
 
