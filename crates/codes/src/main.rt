@@ -1,8 +1,8 @@
-// The line program: reads lines of signal, PRN, place and count from standard input and writes a reply to each to standard output. `lines` says what a
-// line is answered; this is a loop over it.
+// The line program: reads lines of signal, PRN, place and count from standard input and writes a reply to each to standard output. `lines` says
+// what a line is answered and `streams` what a stream of them is; this is a loop over that.
 use libc::STDIN_FILENO;
 use libc::STDOUT_FILENO;
-use lines::Pending;
+use streams::Pending;
 
 // How it goes on after a turn: more may follow, the input has ended, or a read or a write failed.
 pub enum Then {
@@ -32,7 +32,7 @@ fn answer(s: Pending, input: &[u8]) -> Turn {
     let mut at = 0;
     let mut out = [0u8; 65536];
     while at < input.len() {
-        let fed = lines::feed(state, &input[at..], &mut out);
+        let fed = streams::feed(state, &input[at..], &mut out);
         let n = fed.n;
         let used = fed.used;
         state = fed.state;
@@ -74,13 +74,13 @@ fn read_once(s: Pending) -> Turn {
 // The reply that the input's end brings: that of a last line lacking its newline, if there is one.
 fn finish(s: Pending) {
     let mut out = [0u8; 10];
-    let n = lines::finish(s, &mut out);
+    let n = streams::finish(s, &mut out);
     wrote(&out[..n]);
 }
 
 // A proved loop has to end, and nothing says that an input does. So it counts its turns down, from a number that no run uses up.
 fn main() {
-    let mut state = lines::empty();
+    let mut state = streams::empty();
     let mut turns = u64::MAX;
     while turns > 0 {
         let turn = read_once(state);

@@ -1,5 +1,3 @@
 pub mod Written
 pub mod LineReplies
-pub mod Streams
-pub mod EveryInput
 pub mod ByTheStandards

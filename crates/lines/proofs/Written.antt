@@ -18,7 +18,7 @@ use lib.ListN.{length, take, drop, getD, set, take-append-drop, length-append, l
 use lib.Seq.{set-split, take-at, drop-at, drop-drop, length-take-le, take-suc}
 use Rattle.engine.specs.Replies.{written}
 use Rattle.lines.specs.Lines.{chipDigit}
-use Rattle.lines.specs.Stream.{Begins}
+use Rattle.lines.specs.Buffers.{Begins}
 
 pub written-none : (n : ℕ) (l : List ℕ) → l ≡ written n [] l
 written-none n l = rw (add-zero n) (sym (take-append-drop n l))

@@ -1,3 +1,3 @@
--- The line program: a line and its reply, then the stream of lines.
+-- A line of the line program and its reply, and what a buffer has after it was written.
 pub mod Lines
-pub mod Stream
+pub mod Buffers

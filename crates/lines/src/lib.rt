@@ -1,21 +1,15 @@
-// The line program's lines: a line and its reply, and a stream of lines fed in chunks of any size.
+// A line of the line program, and its reply.
 ghost use mathlib.Core.Path.{_≡_};
 ghost use mathlib.Core.Bool.{cond};
-ghost use mathlib.Core.List.{[], _∷_, map, _++_};
+ghost use mathlib.Core.List.{map};
 ghost use Prim.Native.Nat.{_≤_, _<_, _+_};
-ghost use lib.ListN.{length, take, drop};
+ghost use lib.ListN.{length};
 ghost use Rattle.engine.specs.Replies.{written};
 ghost use Rattle.lines.specs.Lines.{areNumbers, isCount, refusedLine, echoed, chipDigit, answeredWith, replyTo, fieldsReply, lineReply};
-ghost use Rattle.lines.specs.Stream.{next, said, rest, replies, lastReply, kept, held, Begins};
+ghost use Rattle.lines.specs.Buffers.{Begins};
 
 // The most chips that a line may ask for.
 const MOST_COUNT: usize = 64;
-
-// So many bytes of a line are kept, one more than the longest well-formed line has: four numbers of 13 digits and three spaces.
-const KEPT: usize = 56;
-
-// Every reply fits in so many bytes.
-const ROOM: usize = 128;
 
 // ---- writing to a buffer: each of these writes from `at` on and answers where it ended
 
@@ -59,7 +53,7 @@ fn put_chips(chips: &[u8], out: &mut [u8], at: usize) -> usize
 }
 
 // The reply `refused N`, at the start of the buffer.
-fn refused(n: u32, out: &mut [u8]) -> usize
+pub fn refused(n: u32, out: &mut [u8]) -> usize
     requires { ⌜ n ≤ 9 ⌝ }
     requires { ⌜ 10 ≤ length (now out) ⌝ }
     ensures { λ r. ⌜ Begins (refusedLine n) (now (out .entry)) (now (out .exit)) r ⌝ }
@@ -169,7 +163,7 @@ fn reply_fields(signal: &[u8], prn: &[u8], place: &[u8], count: &[u8], out: &mut
 }
 
 // The reply to a line.
-fn reply(line: &[u8], out: &mut [u8]) -> usize
+pub fn reply(line: &[u8], out: &mut [u8]) -> usize
     requires { ⌜ 128 ≤ length (now out) ⌝ }
     ensures { λ r. ⌜ Begins (lineReply (now (line .entry))) (now (out .entry)) (now (out .exit)) r ⌝ }
 {
@@ -180,125 +174,4 @@ fn reply(line: &[u8], out: &mut [u8]) -> usize
     let prn = &second[..fields::cut(second)];
     let place = &third[..fields::cut(third)];
     reply_fields(signal, prn, place, fourth, out)
-}
-
-// ---- the stream
-
-// The line that has no newline yet, or as much of it as is kept: a line of any length takes no more memory.
-pub struct Pending {
-    pub bytes: [u8; KEPT],
-    pub len: usize,
-}
-
-// A stream that nothing was fed to.
-pub fn empty() -> Pending
-    ensures { λ r. ⌜ held r ≡ [] ⌝ }
-{
-    Pending {
-        bytes: [0u8; KEPT],
-        len: 0,
-    }
-}
-
-// One byte more, or none where 56 are kept.
-fn push(s: Pending, b: u8) -> Pending
-    ensures { λ r. ⌜ held r ≡ kept (held s ++ (b ∷ [])) ⌝ }
-{
-    let at = s.len;
-    if KEPT <= at {
-        return s;
-    }
-    let mut t = s;
-    t.bytes[at] = b;
-    t.len = at + 1;
-    t
-}
-
-fn held_length(s: Pending) -> usize
-    ensures { λ r. ⌜ r ≡ length (held s) ⌝ }
-{
-    if s.len < KEPT { s.len } else { KEPT }
-}
-
-// The newline of a line: its reply from n on.
-fn ended(s: Pending, out: &mut [u8], n: usize) -> usize
-    requires { ⌜ n + 128 ≤ length (now out) ⌝ }
-    ensures { λ r. ⌜ r ≡ n + length (lineReply (held s)) ⌝ }
-    ensures { λ r. ⌜ now (out .exit) ≡ written n (lineReply (held s)) (now (out .entry)) ⌝ }
-{
-    let bytes = s.bytes;
-    let k = reply(&bytes[..held_length(s)], &mut out[n..]);
-    n + k
-}
-
-struct Turned {
-    state: Pending,
-    n: usize,
-}
-
-// One byte of input: what it says, from n on.
-fn turn(s: Pending, b: u8, out: &mut [u8], n: usize) -> Turned
-    requires { ⌜ n + 128 ≤ length (now out) ⌝ }
-    ensures { λ r. ⌜ held (r .state) ≡ kept (next (held s) b) ⌝ }
-    ensures { λ r. ⌜ r .n ≡ n + length (said (held s) b) ⌝ }
-    ensures { λ r. ⌜ now (out .exit) ≡ written n (said (held s) b) (now (out .entry)) ⌝ }
-{
-    if b == b'\n' {
-        let end = ended(s, out, n);
-        return Turned {
-            state: empty(),
-            n: end,
-        };
-    }
-    Turned {
-        state: push(s, b),
-        n: n,
-    }
-}
-
-// What feeding a chunk leaves: the state, how many bytes of the chunk were taken, and how many of the buffer were written.
-pub struct Fed {
-    pub state: Pending,
-    pub used: usize,
-    pub n: usize,
-}
-
-// Takes bytes of a chunk as long as the buffer has 128 bytes left, in which every reply fits, and writes their replies at the buffer's start.
-pub fn feed(s: Pending, input: &[u8], out: &mut [u8]) -> Fed
-    ensures { λ r. ⌜ held (r .state) ≡ kept (rest (held s) (take (r .used) (now (input .entry)))) ⌝ }
-    ensures { λ r. ⌜ Begins (replies (held s) (take (r .used) (now (input .entry)))) (now (out .entry)) (now (out .exit)) (r .n) ⌝ }
-    ensures { λ r. ⌜ (r .n ≤ length (now (out .entry))) × (r .used ≤ length (now (input .entry))) ⌝ }
-    ensures { λ r. ⌜ (r .used < length (now (input .entry)) → length (now (out .entry)) < r .n + 128) ⌝ }
-{
-    let mut state = s;
-    let mut n = 0;
-    let mut i = 0;
-    while i < input.len() {
-        if out.len() < ROOM + n {
-            return Fed {
-                state: state,
-                used: i,
-                n: n,
-            };
-        }
-        let t = turn(state, input[i], out, n);
-        state = t.state;
-        n = t.n;
-        i += 1;
-    }
-    Fed {
-        state: state,
-        used: i,
-        n: n,
-    }
-}
-
-// What the end of the input says: nothing, or the refusal of a line that lacks its newline.
-pub fn finish(s: Pending, out: &mut [u8; 10]) -> usize
-    ensures { λ r. ⌜ Begins (lastReply (held s)) (now (out .entry)) (now (out .exit)) r ⌝ }
-{
-    if s.len == 0 {
-        return 0;
-    }
-    refused(9, out)
 }

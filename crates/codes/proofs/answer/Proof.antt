@@ -6,8 +6,8 @@ use native.Mathlib.Omega.{arith}
 use lib.ListN.{drop, take, length, length-take, length-drop}
 use lib.Seq.{length-take-le}
 use borrow.Author.Needs.{needs}
-use Rattle.lines.proofs.Streams.{fed-some}
-use Rattle.lines.specs.Stream.{held}
+use Rattle.streams.proofs.Streams.{fed-some}
+use Rattle.streams.specs.Stream.{held}
 use Rattle.codes.proofs.answer.Statement.{statement}
 use Rattle.codes.proofs.answer.Tie as tie
 

@@ -5,7 +5,7 @@ use lib.Seq.{length-take-le}
 use lib.ListN.{replicate}
 use borrow.Author.Needs.{needs}
 use Rattle.lines.proofs.Written.{begins-within}
-use Rattle.lines.specs.Stream.{lastReply, held}
+use Rattle.streams.specs.Stream.{lastReply, held}
 use Rattle.codes.proofs.finish.Statement.{statement}
 use Rattle.codes.proofs.finish.Tie as tie
 

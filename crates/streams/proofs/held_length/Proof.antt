@@ -1,12 +1,12 @@
--- `lines::held_length` meets its contract.
+-- `streams::held_length` meets its contract.
 -- Assumes nothing.
 use mathlib.Core.Path.{_≡_, ap, sym, _∙_}
 use native.Mathlib.Omega.{arith}
 use lib.Seq.{length-take-le, take-all}
 use lib.ListN.{length}
 use borrow.Author.Needs.{needs}
-use Rattle.lines.proofs.held_length.Statement.{statement}
-use Rattle.lines.proofs.held_length.Tie as tie
+use Rattle.streams.proofs.held_length.Statement.{statement}
+use Rattle.streams.proofs.held_length.Tie as tie
 
 returns : tie.Need-returns
 returns c =

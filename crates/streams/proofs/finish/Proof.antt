@@ -1,16 +1,16 @@
--- `lines::finish` meets its contract.
+-- `streams::finish` meets its contract.
 -- Assumes nothing.
 use Prim.Native.Nat.{ℕ, _<_}
 use mathlib.Core.Path.{sym, ap}
 use mathlib.Core.List.{List, _++_}
 use lib.ListN.{length}
 use borrow.Author.Needs.{needs}
-use Rattle.lines.proofs.Streams.{none-held, some-held}
-use Rattle.lines.specs.Stream.{lastReply, held}
+use Rattle.streams.proofs.Streams.{none-held, some-held}
+use Rattle.streams.specs.Stream.{lastReply, held}
 use Rattle.lines.specs.Lines.{refusedLine}
 use Rattle.lines.proofs.Written.{begins-as}
-use Rattle.lines.proofs.finish.Statement.{statement}
-use Rattle.lines.proofs.finish.Tie as tie
+use Rattle.streams.proofs.finish.Statement.{statement}
+use Rattle.streams.proofs.finish.Tie as tie
 
 returns : tie.Need-returns
 returns c =

@@ -3,11 +3,10 @@
 use Prim.Native.Nat.{ℕ}
 use mathlib.Core.Bool.{cond}
 use mathlib.Core.List.{List, [], _∷_, _++_}
-use mathlib.Core.Path.{_≡_}
 use lib.Dec.{eqb}
-use lib.ListN.{length, take, drop}
+use lib.ListN.{take}
 use Rattle.lines.specs.Lines.{lineReply, refusedLine}
-use Rattle.lines.specs.declared.Pending.{Pending}
+use Rattle.streams.specs.declared.Pending.{Pending}
 
 -- the bytes of the line that has no newline yet, after one byte more
 abbrev pub next : List ℕ → ℕ → List ℕ
@@ -43,8 +42,3 @@ kept line = take 56 line
 -- the bytes that a state holds
 abbrev pub held : Pending → List ℕ
 held s = take (s .len) (s .bytes)
-
--- ---- what a buffer has: x at its start, n bytes, and what it had before behind that
-
-abbrev pub Begins : List ℕ → List ℕ → List ℕ → ℕ → Type 0
-Begins x old new n = (n ≡ length x) × (new ≡ x ++ drop n old)

@@ -1,9 +1,9 @@
--- `lines::push` meets its contract.
+-- `streams::push` meets its contract.
 -- Assumes nothing.
 use borrow.Author.Needs.{needs}
-use Rattle.lines.proofs.Streams.{full, one-more}
-use Rattle.lines.proofs.push.Statement.{statement}
-use Rattle.lines.proofs.push.Tie as tie
+use Rattle.streams.proofs.Streams.{full, one-more}
+use Rattle.streams.proofs.push.Statement.{statement}
+use Rattle.streams.proofs.push.Tie as tie
 
 returns : tie.Need-returns
 returns c =

@@ -1,4 +1,4 @@
--- `lines::turn` meets its contract.
+-- `streams::turn` meets its contract.
 -- Assumes nothing.
 use Prim.Native.Nat.{ℕ, _+_}
 use mathlib.Core.Path.{sym, ap, _∙_}
@@ -6,12 +6,12 @@ use mathlib.Core.List.{List}
 use native.Mathlib.Nat.{add-zero}
 use lib.ListN.{length}
 use borrow.Author.Needs.{needs}
-use Rattle.lines.proofs.Streams.{newline-next, newline-said, other-next, other-said}
+use Rattle.streams.proofs.Streams.{newline-next, newline-said, other-next, other-said}
 use Rattle.lines.proofs.Written.{written-none}
-use Rattle.lines.specs.Stream.{held, kept}
+use Rattle.streams.specs.Stream.{held, kept}
 use Rattle.engine.specs.Replies.{written}
-use Rattle.lines.proofs.turn.Statement.{statement}
-use Rattle.lines.proofs.turn.Tie as tie
+use Rattle.streams.proofs.turn.Statement.{statement}
+use Rattle.streams.proofs.turn.Tie as tie
 
 ended-requires : tie.Need-ended-requires
 ended-requires c κs = search needs

@@ -1,12 +1,12 @@
--- `lines::feed` meets its contract.
+-- `streams::feed` meets its contract.
 -- Assumes nothing.
 use Prim.Native.Nat.{_-_, _<_}
 use native.Mathlib.Omega.{arith}
 use lib.ListN.{length}
 use borrow.Author.Needs.{needs}
-use Rattle.lines.proofs.Streams.{FedSoFar, fed-none, fed-more}
-use Rattle.lines.proofs.feed.Statement.{statement}
-use Rattle.lines.proofs.feed.Tie as tie
+use Rattle.streams.proofs.Streams.{FedSoFar, fed-none, fed-more}
+use Rattle.streams.proofs.feed.Statement.{statement}
+use Rattle.streams.proofs.feed.Tie as tie
 
 abbrev Inv-loop : tie.InvT-loop
 Inv-loop input out₀ state₀ n₀ i₀ out state n i = FedSoFar input out₀ state₀ out state n i

@@ -1,4 +1,4 @@
--- `lines::ended` meets its contract.
+-- `streams::ended` meets its contract.
 -- Assumes nothing.
 use Prim.Native.Nat.{ℕ, _+_, _-_, _≤_}
 use mathlib.Core.Path.{_≡_, sym, ap, _∙_}
@@ -7,13 +7,13 @@ use native.Mathlib.Omega.{arith}
 use lib.Seq.{length-take-le}
 use lib.ListN.{length, take, drop, length-take}
 use borrow.Author.Needs.{needs}
-use Rattle.lines.proofs.Streams.{held-again}
+use Rattle.streams.proofs.Streams.{held-again}
 use Rattle.lines.proofs.Written.{begins-fits}
-use Rattle.lines.specs.Stream.{held}
+use Rattle.streams.specs.Stream.{held}
 use Rattle.lines.specs.Lines.{lineReply}
 use Rattle.runs.proofs.ChipsSoFar.{put-back}
-use Rattle.lines.proofs.ended.Statement.{statement}
-use Rattle.lines.proofs.ended.Tie as tie
+use Rattle.streams.proofs.ended.Statement.{statement}
+use Rattle.streams.proofs.ended.Tie as tie
 
 held-length-requires : tie.Need-held-length-requires
 held-length-requires c κs = search needs

@@ -5,9 +5,9 @@
 use Prim.Native.Nat.{ℕ}
 use mathlib.Core.List.{List, [], _∷_, _++_, append-assoc, append-nil}
 use mathlib.Core.Path.{_≡_, refl, sym, ap, ap₂, _∙_}
 use Rattle.lines.specs.Lines.{lineReply}
-use Rattle.lines.specs.Stream.{next, rest, replies, lastReply, answers, kept}
-use Rattle.lines.proofs.Streams.{other-next, other-said, replies-append, rest-append, kept-said, kept-next, kept-twice}
+use Rattle.streams.specs.Stream.{next, rest, replies, lastReply, answers, kept}
+use Rattle.streams.proofs.Streams.{other-next, other-said, replies-append, rest-append, kept-said, kept-next, kept-twice}
 
 -- what is still to be said, where a line has begun with some bytes
 abbrev saying : List ℕ → List ℕ → List ℕ

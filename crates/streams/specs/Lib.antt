@@ -1,0 +1,2 @@
+-- What the line program says to a stream of bytes.
+pub mod Stream
