@@ -102,9 +102,21 @@ check_write_errors() {
     fi
 }
 
+# Arguments are not taken for input: nothing is read, and it says what it does.
+check_arguments() {
+    local arguments
+    for arguments in --help "2 1 0 12" "2 1"; do
+        timeout 10 "$codes" $arguments <"$input" >"$out/stdout" 2>"$out/stderr" || fail "codes $arguments: status $?"
+        says "codes $arguments" "codes takes no arguments"
+        [ ! -s "$out/stdout" ] || fail "codes $arguments: expected no reply, got $(cat "$out/stdout")"
+    done
+    echo "arguments: told that it takes none"
+}
+
 check_chunks
 check_small
 check_many
 check_prompt_reply
 check_read_errors
 check_write_errors
+check_arguments

@@ -1,5 +1,6 @@
 // The line program: reads lines of signal, PRN, place and count from standard input and writes a reply to each to standard output. `lines` says
 // what a line is answered and `streams` what a stream of them is; this is a loop over that.
+use libc::STDERR_FILENO;
 use libc::STDIN_FILENO;
 use libc::STDOUT_FILENO;
 use streams::Pending;
@@ -79,7 +80,7 @@ fn finish(s: Pending) {
 }
 
 // A proved loop has to end, and nothing says that an input does. So it counts its turns down, from a number that no run uses up.
-fn main() {
+fn answer_all() {
     let mut state = streams::empty();
     let mut turns = u64::MAX;
     while turns > 0 {
@@ -99,4 +100,20 @@ fn main() {
             }
         }
     }
+}
+
+// Who gives arguments, --help among them, is told what it does, and nothing is read.
+fn main() {
+    if 1 < os::arg_count() {
+        io::write_all(
+            STDERR_FILENO,
+            b"codes takes no arguments. It reads lines of SIGNAL PRN PLACE COUNT, as 2 1 0 12,\n",
+        );
+        io::write_all(
+            STDERR_FILENO,
+            b"from standard input and answers each on standard output.\n",
+        );
+        return;
+    }
+    answer_all();
 }

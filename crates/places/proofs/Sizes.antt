@@ -28,17 +28,24 @@ mag-opposite : (k : ℕ) → k < 9223372036854775808 → mag (negℤ (pos k)) < 
 mag-opposite zero h = h
 mag-opposite (suc k) h = omega (arith, h)
 
-pub negative : (z : ℤ) → ltZ z (pos 0) ≡ true → (k : ℕ) × (z ≡ negsuc k)
-negative (pos n) below = absurd (omega (arith, ltb-true n 0 below))
-negative (negsuc k) below = (k, refl)
-
-pub other : (z : ℤ) → ltZ z (pos 0) ≡ false → (n : ℕ) × (z ≡ pos n)
-other (pos n) above = (n, refl)
-other (negsuc k) above = absurd (true≢false above)
-
 -- what a signed local is read back as
 abbrev back : ℤ → ℤ
 back z = toZ w64 (ofZ w64 z)
+
+below-zero : (z : ℤ) → ltZ z (pos 0) ≡ true → (k : ℕ) × (z ≡ negsuc k)
+below-zero (pos n) below = absurd (omega (arith, ltb-true n 0 below))
+below-zero (negsuc k) below = (k, refl)
+
+not-below : (z : ℤ) → ltZ z (pos 0) ≡ false → (n : ℕ) × (z ≡ pos n)
+not-below (pos n) above = (n, refl)
+not-below (negsuc k) above = absurd (true≢false above)
+
+module _ (z : ℤ) (fits : SFits w64 z) where
+  pub negative : ltZ (back z) (pos 0) ≡ true → (k : ℕ) × (z ≡ negsuc k)
+  negative below = below-zero z (ap (λ (x : ℤ). ltZ x (pos 0)) (sym (toZ-ofZ w64 z fits)) ∙ below)
+
+  pub other : ltZ (back z) (pos 0) ≡ false → (n : ℕ) × (z ≡ pos n)
+  other above = not-below z (ap (λ (x : ℤ). ltZ x (pos 0)) (sym (toZ-ofZ w64 z fits)) ∙ above)
 
 -- -(k + 1), one added, and the opposite taken, each read back
 module _ (z : ℤ) (k : ℕ) (is : z ≡ negsuc k) (fits : SFits w64 z) where

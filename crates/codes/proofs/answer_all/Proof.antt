@@ -1,8 +1,8 @@
--- `codes::main` does nothing undefined and ends.
+-- `codes::answer_all` does nothing undefined and ends.
 -- Assumes nothing.
 use borrow.Author.Needs.{needs}
-use Rattle.codes.proofs.main.Statement.{statement}
-use Rattle.codes.proofs.main.Tie as tie
+use Rattle.codes.proofs.answer_all.Statement.{statement}
+use Rattle.codes.proofs.answer_all.Tie as tie
 
 abbrev Inv-loop : tie.InvT-loop
 Inv-loop state₀ turns₀ state turns = Unit {0}
@@ -49,8 +49,8 @@ returns-2 c = search needs
 returns-3 : tie.Need-returns-3 Inv-loop μ-loop
 returns-3 c = search needs
 
-pub main-spec : {M : Type 1} → statement M
-main-spec =
+pub answer-all-spec : {M : Type 1} → statement M
+answer-all-spec =
     tie.close
     (tie.spec
     Inv-loop
