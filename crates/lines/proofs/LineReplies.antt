@@ -1,6 +1,7 @@
 -- What a line is answered.
 --     few, many, few-asked                            how many chips Chips is asked for
---     echoed-most, digits-most, answered-is           the parts of an answer, how long they are, and that together they are the answer
+--     with-signal, with-prn, with-place, with-chips,
+--     with-newline                                    an answer, part by part
 --     reply-refused, reply-no-count, reply-answered   the reply to four numbers: refused by Chips, for its count, or answered
 --     reply-malformed, reply-numbers, numbers         the reply to four fields
 --     line-is, long-refused                           the reply to a line, and that one of more than 55 bytes is refused
@@ -11,16 +12,19 @@ use mathlib.Core.List.{List, [], _∷_, _++_, map, append-assoc}
 use mathlib.Core.Path.{_≡_, refl, sym, ap, _∙_}
 use native.Mathlib.Omega.{arith}
 use lib.Dec.{leb, ltb, eqb}
-use lib.ListN.{length, length-append, length-map}
+use lib.ListN.{length, set, length-append, length-map}
 use borrow.Author.Tests.{leb-true, leb-false, le-leb, lt-leb, lt-ltb, ne-eqb}
 use Rattle.machine.specs.Signals.{weekOf}
 use Rattle.machine.specs.Machine.{isSignal, isPrn}
-use Rattle.engine.specs.Replies.{mostChips}
+use Rattle.engine.specs.Replies.{mostChips, written}
 use Rattle.gps_chips.specs.Chips.{chipsAnswer, chipsBuffer, byTheMachine}
 use Rattle.gps_chips.proofs.Answers.{Admitted, admitted}
 use Rattle.machine.proofs.Tests.{four}
 use Rattle.fields.specs.Fields.{after, isNumber, value, shorn}
 use Rattle.fields.proofs.Bytes.{number-is, sides-whole, shorn-short}
+use Rattle.lines.specs.Buffers.{Begins}
+use Rattle.lines.specs.Inner.{Fits}
+use Rattle.lines.proofs.Written.{begins-byte, begins-as, Room, room-none, room-more}
 use Rattle.lines.specs.Lines.{signalField, prnField, placeField, countField, isCount, lineRefusal, refusedLine, echoed, chipDigit, answeredWith, replyTo, areNumbers, fieldsReply, lineReply}
 
 -- ---- the count
@@ -42,18 +46,52 @@ many n h = rw (lt-leb n 64 h) (by (leb 1 n))
 -- ---- the reply
 
 -- 13 digits and a space
-pub echoed-most : (field : List ℕ) → length field ≤ 13 → length (echoed field) ≤ 14
+echoed-most : (field : List ℕ) → length field ≤ 13 → length (echoed field) ≤ 14
 echoed-most field h = rw (length-append (shorn field) (32 ∷ [])) (omega (arith, shorn-short field))
 
-pub digits-most : (chips : List ℕ) → length chips ≤ 64 → length (map chipDigit chips) ≤ 64
+digits-most : (chips : List ℕ) → length chips ≤ 64 → length (map chipDigit chips) ≤ 64
 digits-most chips h = rw (length-map chips chipDigit) h
 
-pub answered-is : (signal prn place chips : List ℕ)
+answered-is : (signal prn place chips : List ℕ)
     → (((echoed signal ++ echoed prn) ++ echoed place) ++ map chipDigit chips) ++ (10 ∷ []) ≡ answeredWith signal prn place chips
 answered-is signal prn place chips =
     append-assoc ((echoed signal ++ echoed prn) ++ echoed place) (map chipDigit chips) (10 ∷ [])
     ∙ append-assoc (echoed signal ++ echoed prn) (echoed place) (map chipDigit chips ++ (10 ∷ []))
     ∙ append-assoc (echoed signal) (echoed prn) (echoed place ++ (map chipDigit chips ++ (10 ∷ [])))
+
+-- what a function writes from n on, and where it ends
+abbrev Wrote : List ℕ → List ℕ → ℕ → List ℕ → ℕ → Type 0
+Wrote x before n after m = (m ≡ n + length x) × (after ≡ written n x before)
+
+-- the parts of an answer, one after the other
+module _ (signal prn place chips old : List ℕ) (f : Fits signal prn place chips old) where
+  pub with-signal : (new : List ℕ) (n : ℕ) → Wrote (echoed signal) old 0 new n → Room (echoed signal) old new n 14
+  with-signal new n w =
+      room-more [] (echoed signal) old old new 0 n 0 14 (room-none old) (w .0) (w .1) (echoed-most signal (f .signal-short)) (omega (arith, f .room))
+
+  pub with-prn : (new after : List ℕ) (n m : ℕ) → Room (echoed signal) old new n 14 → Wrote (echoed prn) new n after m
+      → Room (echoed signal ++ echoed prn) old after m 28
+  with-prn new after n m r w =
+      room-more (echoed signal) (echoed prn) old new after n m 14 14 r (w .0) (w .1) (echoed-most prn (f .prn-short)) (omega (arith, f .room))
+
+  pub with-place : (new after : List ℕ) (n m : ℕ) → Room (echoed signal ++ echoed prn) old new n 28 → Wrote (echoed place) new n after m
+      → Room ((echoed signal ++ echoed prn) ++ echoed place) old after m 42
+  with-place new after n m r w =
+      room-more (echoed signal ++ echoed prn) (echoed place) old new after n m 28 14 r (w .0) (w .1) (echoed-most place (f .place-short)) (omega (arith, f .room))
+
+  pub with-chips : (new after : List ℕ) (n m : ℕ) → Room ((echoed signal ++ echoed prn) ++ echoed place) old new n 42
+      → Wrote (map chipDigit chips) new n after m → Room (((echoed signal ++ echoed prn) ++ echoed place) ++ map chipDigit chips) old after m 106
+  with-chips new after n m r w =
+      room-more ((echoed signal ++ echoed prn) ++ echoed place) (map chipDigit chips) old new after n m 42 64 r (w .0) (w .1) (digits-most chips (f .few-chips))
+      (omega (arith, f .room))
+
+  -- and the newline
+  pub with-newline : (new : List ℕ) (n : ℕ) → Room (((echoed signal ++ echoed prn) ++ echoed place) ++ map chipDigit chips) old new n 106
+      → Begins (answeredWith signal prn place chips) old (set new n 10) (n + 1)
+  with-newline new n r =
+      let parts = ((echoed signal ++ echoed prn) ++ echoed place) ++ map chipDigit chips in
+      begins-as (parts ++ (10 ∷ [])) (answeredWith signal prn place chips) old (set new n 10) (n + 1) (answered-is signal prn place chips)
+      (begins-byte parts old new n 10 (r .begins) (omega (arith, r .few, r .same, f .room)))
 
 -- ---- what is refused
 

@@ -7,6 +7,7 @@ ghost use lib.ListN.{length};
 ghost use Rattle.engine.specs.Replies.{written};
 ghost use Rattle.lines.specs.Lines.{areNumbers, isCount, refusedLine, echoed, chipDigit, answeredWith, replyTo, fieldsReply, lineReply};
 ghost use Rattle.lines.specs.Buffers.{Begins};
+ghost use Rattle.lines.specs.Inner.{Fits};
 
 // The most chips that a line may ask for.
 const MOST_COUNT: usize = 64;
@@ -84,11 +85,7 @@ fn are_numbers(signal: &[u8], prn: &[u8], place: &[u8], count: &[u8]) -> bool
 
 // The first three numbers and the chips, at the start of the buffer.
 fn answered(signal: &[u8], prn: &[u8], place: &[u8], chips: &[u8], out: &mut [u8]) -> usize
-    requires { ⌜ length (now signal) ≤ 13 ⌝ }
-    requires { ⌜ length (now prn) ≤ 13 ⌝ }
-    requires { ⌜ length (now place) ≤ 13 ⌝ }
-    requires { ⌜ length (now chips) ≤ 64 ⌝ }
-    requires { ⌜ 128 ≤ length (now out) ⌝ }
+    requires { ⌜ Fits (now signal) (now prn) (now place) (now chips) (now out) ⌝ }
     ensures { λ r. ⌜ Begins (answeredWith (now (signal .entry)) (now (prn .entry)) (now (place .entry)) (now (chips .entry))) (now (out .entry)) (now (out .exit)) r ⌝ }
 {
     let first = put_number(signal, out, 0);
@@ -120,11 +117,8 @@ fn answer(
     chips: &mut [u8],
     out: &mut [u8],
 ) -> usize
-    requires { ⌜ length (now signal) ≤ 13 ⌝ }
-    requires { ⌜ length (now prn) ≤ 13 ⌝ }
-    requires { ⌜ length (now place) ≤ 13 ⌝ }
+    requires { ⌜ Fits (now signal) (now prn) (now place) (now chips) (now out) ⌝ }
     requires { ⌜ length (now chips) ≡ cond (isCount (asked .count)) (asked .count) 0 ⌝ }
-    requires { ⌜ 128 ≤ length (now out) ⌝ }
     ensures { λ r. ⌜ Begins (replyTo (now (signal .entry)) (now (prn .entry)) (now (place .entry)) (asked .signal) (asked .prn) (asked .place) (asked .count)) (now (out .entry)) (now (out .exit)) r ⌝ }
 {
     let refusal = gps_chips::gps_chips(asked.signal, asked.prn, asked.place, chips);

@@ -22,8 +22,8 @@ refused-requires c κs =
     let n = length (a .chips .now) in
     let pre = start .pre in
     let g = c .before .before .before .before .gps-chips in
-    let refused = reply-refused (q .signal) (q .prn) (q .place) (q .count) n (pre .1 .1 .1 .0) (a .signal .now) (a .prn .now) (a .place .now) (g .result) (g .ensures .0) (c .before .if1 .taken) in
-    (omega (arith, refused .1), omega (arith, pre .1 .1 .1 .1))
+    let refused = reply-refused (q .signal) (q .prn) (q .place) (q .count) n (pre .1) (a .signal .now) (a .prn .now) (a .place .now) (g .result) (g .ensures .0) (c .before .if1 .taken) in
+    (omega (arith, refused .1), omega (arith, pre .0 .room))
 
 same-length : tie.Need-same-length
 same-length c = search needs
@@ -40,7 +40,7 @@ returns c =
     let pre = start .pre in
     let g = c .before .before .before .before .before .before .before .gps-chips in
     let w = c .before .before .refused in
-    let refused = reply-refused (q .signal) (q .prn) (q .place) (q .count) n (pre .1 .1 .1 .0) (a .signal .now) (a .prn .now) (a .place .now) (g .result) (g .ensures .0) (c .before .before .before .before .if1 .taken) in
+    let refused = reply-refused (q .signal) (q .prn) (q .place) (q .count) n (pre .1) (a .signal .now) (a .prn .now) (a .place .now) (g .result) (g .ensures .0) (c .before .before .before .before .if1 .taken) in
     begins-as (refusedLine (g .result)) (replyTo (a .signal .now) (a .prn .now) (a .place .now) (q .signal) (q .prn) (q .place) (q .count)) (a .out .now) (w .last .1 .0) (w .result) (refused .0) (w .ensures)
 
 refused-requires-2 : tie.Need-refused-requires-2
@@ -62,7 +62,7 @@ returns-2 c =
     let g = c .before .before .before .before .before .before .before .before .gps-chips in
     let w = c .before .before .refused2 in
     let none : n ≡ 0 = search needs in
-    let refused = reply-no-count (q .signal) (q .prn) (q .place) (q .count) n (pre .1 .1 .1 .0) (a .signal .now) (a .prn .now) (a .place .now) (g .result) (g .ensures .0) (c .before .before .before .before .before .if1 .left) none in
+    let refused = reply-no-count (q .signal) (q .prn) (q .place) (q .count) n (pre .1) (a .signal .now) (a .prn .now) (a .place .now) (g .result) (g .ensures .0) (c .before .before .before .before .before .if1 .left) none in
     begins-as (refusedLine 5) (replyTo (a .signal .now) (a .prn .now) (a .place .now) (q .signal) (q .prn) (q .place) (q .count)) (a .out .now) (w .last .1 .0) (w .result) refused (w .ensures)
 
 answered-requires : tie.Need-answered-requires
@@ -73,8 +73,14 @@ answered-requires c κs =
     let n = length (a .chips .now) in
     let pre = start .pre in
     let g = c .before .before .before .before .before .before .gps-chips in
-    let few : n ≤ 64 = few-asked (q .signal) (q .prn) (q .place) (q .count) n (pre .1 .1 .1 .0) in
-    (pre .0, (pre .1 .0, (pre .1 .1 .0, (search needs, pre .1 .1 .1 .1))))
+    let few : n ≤ 64 = few-asked (q .signal) (q .prn) (q .place) (q .count) n (pre .1) in
+    record {
+      signal-short = pre .0 .signal-short;
+      prn-short = pre .0 .prn-short;
+      place-short = pre .0 .place-short;
+      few-chips = search needs;
+      room = pre .0 .room;
+    }
 
 same-length-5 : tie.Need-same-length-5
 same-length-5 c = search needs
@@ -92,7 +98,7 @@ returns-3 c =
     let g = c .before .before .before .before .before .before .before .before .before .gps-chips in
     let w = c .before .before .answered in
     let some : n ≡ 0 → ⊥ = search needs in
-    let made = reply-answered (q .signal) (q .prn) (q .place) (q .count) n (pre .1 .1 .1 .0) (a .signal .now) (a .prn .now) (a .place .now) (g .result) (g .ensures .0) (c .before .before .before .before .before .before .if1 .left) some (a .chips .now) (g .last .1 .1 .1 .0) refl (g .ensures .1 .0) in
+    let made = reply-answered (q .signal) (q .prn) (q .place) (q .count) n (pre .1) (a .signal .now) (a .prn .now) (a .place .now) (g .result) (g .ensures .0) (c .before .before .before .before .before .before .if1 .left) some (a .chips .now) (g .last .1 .1 .1 .0) refl (g .ensures .1 .0) in
     begins-as (answeredWith (a .signal .now) (a .prn .now) (a .place .now) (g .last .1 .1 .1 .0)) (replyTo (a .signal .now) (a .prn .now) (a .place .now) (q .signal) (q .prn) (q .place) (q .count)) (a .out .now) (w .last .1 .1 .1 .1 .0) (w .result) made (w .ensures)
 
 pub answer-spec : {M : Type 1} → statement M

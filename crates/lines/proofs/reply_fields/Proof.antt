@@ -1,12 +1,16 @@
 -- `lines::reply_fields` meets its contract.
 -- Assumes nothing.
+use Prim.Native.Nat.{ℕ}
 use mathlib.Core.Path.{_≡_, sym, _∙_}
 use mathlib.Core.Bool.{true, false}
+use mathlib.Core.List.{List}
+use native.Mathlib.Omega.{arith}
 use lib.Seq.{length-take-le}
-use lib.ListN.{replicate}
+use lib.ListN.{length, take, replicate}
 use borrow.Author.Tests.{not-true, not-false}
 use borrow.Author.Needs.{needs}
 use Rattle.lines.proofs.LineReplies.{numbers, reply-malformed, reply-numbers}
+use Rattle.lines.specs.Inner.{Fits}
 use Rattle.lines.specs.Lines.{areNumbers, refusedLine, replyTo, fieldsReply}
 use Rattle.lines.proofs.Written.{begins-as}
 use Rattle.lines.proofs.reply_fields.Statement.{statement}
@@ -77,7 +81,17 @@ answer-requires c κs =
     let t = c .before .before .before .before .before .before .before .before .are-numbers in
     let good : areNumbers (a .signal .now) (a .prn .now) (a .place .now) (a .count .now) ≡ true = sym (t .ensures) ∙ not-false (t .result) (c .before .before .before .before .before .before .before .if1 .left) in
     let all = numbers (a .signal .now) (a .prn .now) (a .place .now) (a .count .now) good in
-    (all .signal-short, (all .prn-short, (all .place-short, (length-take-le (c .before .before .chip-count .result) (replicate 64 0) (c .before .before .chip-count .ensures .1) ∙ c .before .before .chip-count .ensures .0, c .before .before .before .before .before .before .before .before .before .before .before .before .before .before .pre))))
+    let count = c .before .before .chip-count in
+    let zeros : List ℕ = replicate 64 0 in
+    let long : length (take (count .result) zeros) ≡ count .result = length-take-le (count .result) zeros (count .ensures .1) in
+    let fits : Fits (a .signal .now) (a .prn .now) (a .place .now) (take (count .result) zeros) (a .out .now) = record {
+      signal-short = all .signal-short;
+      prn-short = all .prn-short;
+      place-short = all .place-short;
+      few-chips = omega (arith, long, count .ensures .1);
+      room = c .before .before .before .before .before .before .before .before .before .before .before .before .before .before .pre;
+    } in
+    (fits, long ∙ count .ensures .0)
 
 same-length-2 : tie.Need-same-length-2
 same-length-2 c = search needs
