@@ -1,7 +1,23 @@
-// The tables, each on a page of its own: title, heads of the columns, rows, and an empty line. Each function answers where the page ends.
-use crate::p_code;
-use crate::phases;
+// The rows of the tables: what stands in each column, which count from 1 as the rows do.
+ghost use Prim.Native.Nat.{_≤_};
+use crate::cells;
+use crate::cells::CA;
+use crate::cells::CL;
+use crate::cells::CM;
+use crate::cells::Cell;
+use crate::cells::I5;
+use crate::cells::P;
+use crate::cells::Q5;
+use crate::states;
+use crate::states::Field;
+use crate::states::X1A;
+use crate::states::X1B;
+use crate::states::X2A;
+use crate::states::X2B;
 use crate::text;
+use machine::LAST_CL;
+use machine::LAST_CM;
+use machine::WEEK_P;
 
 pub enum Table {
     // IS-GPS-200 3-Ia, 3-IIa, 3-VI, 3-VII, 6-III, 6-IV
@@ -15,123 +31,208 @@ pub enum Table {
     XbStates,
 }
 
-// A row by its number, from 1. Where a table has a row for each PRN from 1 to 37, that is the PRN.
-fn put_row(page: &mut [u8], at: usize, table: Table, row: u64) -> usize {
-    match table {
-        Table::CodePhases => phases::put_code_phases(page, at, row),
-        Table::L2States => phases::put_l2_states(page, at, row),
-        Table::ResetTiming => p_code::put_timing(page, at, row),
-        Table::FinalVectors => p_code::put_final_vectors(page, at, row),
-        Table::FirstChips => p_code::put_first_chips(page, at, row),
-        Table::LastChips => p_code::put_last_chips(page, at, row),
-        Table::XbStates => phases::put_xb_states(page, at, row),
+// ---- tables with a row for each PRN from 1 to 37
+
+// Table 3-Ia: the first ten chips of C/A, and the first twelve of P.
+fn code_phase(prn: u64, column: u64) -> Cell {
+    match column {
+        1 => Cell::Right(prn, 3, b' '),
+        2 => Cell::First(CA, prn),
+        _ => Cell::First(P, prn),
     }
 }
 
-fn put_rows(page: &mut [u8], from: usize, table: Table, count: u64) -> usize {
+// Table 3-IIa: the states of L2 CM and L2 CL as a channel is opened, and at the last chip of their first periods.
+fn l2_state(prn: u64, column: u64) -> Cell {
+    match column {
+        1 => Cell::Right(prn, 3, b' '),
+        2 => states::at_open(CM, prn, Field::Register(1)),
+        3 => states::at_open(CL, prn, Field::Register(2)),
+        4 => states::at_place(CM, prn, LAST_CM as u64, Field::Register(1)),
+        _ => states::at_place(CL, prn, LAST_CL as u64, Field::Register(2)),
+    }
+}
+
+// Table 3-I of IS-GPS-705.
+fn xb_state(prn: u64, column: u64) -> Cell {
+    match column {
+        1 => Cell::Right(prn, 3, b' '),
+        2 => Cell::Xb(I5, prn),
+        _ => Cell::Xb(Q5, prn),
+    }
+}
+
+// ---- Table 3-VI
+
+// Where X1A's last cycle of the week begins.
+const LAST_CYCLE: u64 = 6_187_103_995_908;
+
+// X1A's phase in a row of the table, one less than its chip.
+fn x1a_phase(row: u64) -> u64
+    ensures { λ r. ⌜ r ≤ 4091 ⌝ }
+{
+    match row {
+        1 => 0,
+        2 => 3_022,
+        3 => 3_126,
+        4 => 3_748,
+        _ => 4_091,
+    }
+}
+
+// A column to a generator.
+fn reset_timing(row: u64, column: u64) -> Cell {
+    states::at_place(P, 1, LAST_CYCLE + x1a_phase(row), Field::Chip(column))
+}
+
+// ---- Table 3-VII
+
+// A generator in its first cycle, and where its next cycle begins.
+struct CycleEnd {
+    generator: u64,
+    place: u64,
+    next: u64,
+}
+
+fn cycle_end(generator: u64, place: u64, next: u64) -> CycleEnd {
+    CycleEnd {
+        generator,
+        place,
+        next,
+    }
+}
+
+// The last two chips of a cycle of each generator.
+fn final_cycle(row: u64) -> CycleEnd {
+    match row {
+        1 => cycle_end(X1A, 4_090, 4_092),
+        2 => cycle_end(X1A, 4_091, 4_092),
+        3 => cycle_end(X1B, 4_091, 4_093),
+        4 => cycle_end(X1B, 4_092, 4_093),
+        5 => cycle_end(X2A, 4_090, 4_092),
+        6 => cycle_end(X2A, 4_091, 4_092),
+        7 => cycle_end(X2B, 4_091, 4_093),
+        _ => cycle_end(X2B, 4_092, 4_093),
+    }
+}
+
+fn final_vector(row: u64, column: u64) -> Cell {
+    let of = final_cycle(row);
+    match column {
+        1 => Cell::Name(of.generator),
+        2 => states::at_place(P, 1, of.place, Field::Chip(of.generator)),
+        3 => states::at_place(P, 1, of.place, Field::Register(of.generator)),
+        _ => states::at_place(P, 1, of.next, Field::Register(of.generator)),
+    }
+}
+
+// ---- Tables 6-III and 6-IV
+
+// The PRN of a row of the two tables.
+fn selected(row: u64) -> u64
+    ensures { λ r. ⌜ (1 ≤ r) × (r ≤ 210) ⌝ }
+{
+    match row {
+        1 => 1,
+        2 => 2,
+        3 => 37,
+        4 => 38,
+        5 => 74,
+        6 => 75,
+        7 => 111,
+        8 => 112,
+        9 => 148,
+        10 => 149,
+        11 => 185,
+        12 => 186,
+        _ => 210,
+    }
+}
+
+// Chips of a day.
+const DAY: u64 = 883_872_000_000;
+
+// Chips of P of a PRN, days on: the first 256 from there, or the last 1,024 before it. With no days these are the week's last.
+fn selected_chips(table: Table, prn: u64, days: u64) -> Cell
+    requires { ⌜ days ≤ 5 ⌝ }
+{
+    let place = days * DAY;
+    match table {
+        Table::FirstChips => Cell::First256(prn, place),
+        _ => {
+            if days == 0 {
+                return Cell::Last1024(prn, WEEK_P - 1_024);
+            }
+            Cell::Last1024(prn, place - 1_024)
+        }
+    }
+}
+
+// A PRN above 37 has the P-code of another, whole days on.
+fn selected_cell(table: Table, row: u64, column: u64) -> Cell {
+    let prn = selected(row);
+    let days = (prn - 1) / 37;
+    let of = prn - 37 * days;
+    match column {
+        1 => Cell::Right(prn, 3, b'0'),
+        2 => Cell::Advance(of, days * 24),
+        _ => selected_chips(table, of, days),
+    }
+}
+
+// ---- rows
+
+fn rows(table: Table) -> u64 {
+    match table {
+        Table::ResetTiming => 5,
+        Table::FinalVectors => 8,
+        Table::FirstChips => 13,
+        Table::LastChips => 13,
+        _ => 37,
+    }
+}
+
+fn columns(table: Table) -> u64 {
+    match table {
+        Table::L2States => 5,
+        Table::ResetTiming => 4,
+        Table::FinalVectors => 4,
+        _ => 3,
+    }
+}
+
+fn cell(table: Table, row: u64, column: u64) -> Cell {
+    match table {
+        Table::CodePhases => code_phase(row, column),
+        Table::L2States => l2_state(row, column),
+        Table::ResetTiming => reset_timing(row, column),
+        Table::FinalVectors => final_vector(row, column),
+        Table::FirstChips => selected_cell(table, row, column),
+        Table::LastChips => selected_cell(table, row, column),
+        Table::XbStates => xb_state(row, column),
+    }
+}
+
+// Two spaces between columns.
+fn put_row(page: &mut [u8], from: usize, table: Table, row: u64) -> usize {
+    let count = columns(table);
+    let mut at = cells::put_cell(page, from, cell(table, row, 1));
+    let mut column: u64 = 1;
+    while column < count {
+        column += 1;
+        at = text::put_fill(page, at, b' ', 0, 2);
+        at = cells::put_cell(page, at, cell(table, row, column));
+    }
+    text::put(page, at, b'\n')
+}
+
+pub fn put_rows(page: &mut [u8], from: usize, table: Table) -> usize {
+    let count = rows(table);
     let mut at = from;
     let mut row: u64 = 0;
     while row < count {
         row += 1;
         at = put_row(page, at, table, row);
-        at = text::put(page, at, b'\n');
     }
-    text::put(page, at, b'\n')
-}
-
-fn put_3_ia(page: &mut [u8]) -> usize {
-    let mut at = text::put_text(page, 0, b"IS-GPS-200 Table 3-Ia. Code Phase Assignments: ");
-    at = text::put_text(
-        page,
-        at,
-        b"first 10 chips of C/A, first 12 chips of P (octal)\n\n",
-    );
-    at = text::put_text(page, at, b"PRN  C/A   P\n");
-    put_rows(page, at, Table::CodePhases, phases::PRNS)
-}
-
-fn put_3_iia(page: &mut [u8]) -> usize {
-    let mut at = text::put_text(page, 0, b"IS-GPS-200 Table 3-IIa. Code Phase Assignments: ");
-    at = text::put_text(
-        page,
-        at,
-        b"initial and end shift register state (octal)\n\n",
-    );
-    at = text::put_text(page, at, b"     Initial               End\n");
-    at = text::put_text(page, at, b"PRN  L2 CM      L2 CL      L2 CM      L2 CL\n");
-    put_rows(page, at, Table::L2States, phases::PRNS)
-}
-
-fn put_3_vi(page: &mut [u8]) -> usize {
-    let mut at = text::put_text(page, 0, b"IS-GPS-200 Table 3-VI. P-Code Reset Timing ");
-    at = text::put_text(
-        page,
-        at,
-        b"(last 400 microseconds of 7-day period): code chip\n\n",
-    );
-    at = text::put_text(page, at, b" X1A   X1B   X2A   X2B\n");
-    put_rows(page, at, Table::ResetTiming, p_code::TIMING_ROWS)
-}
-
-fn put_3_vii(page: &mut [u8]) -> usize {
-    let mut at = text::put_text(
-        page,
-        0,
-        b"IS-GPS-200 Table 3-VII. Final Code Vector States\n\n",
-    );
-    at = text::put_text(
-        page,
-        at,
-        b"Code  Chip  Vector State  1st Chip following Epoch\n",
-    );
-    put_rows(page, at, Table::FinalVectors, p_code::VECTOR_ROWS)
-}
-
-fn put_6_iii(page: &mut [u8]) -> usize {
-    let mut at = text::put_text(
-        page,
-        0,
-        b"IS-GPS-200 Table 6-III. First 256 P-code Chips of the Week ",
-    );
-    at = text::put_text(page, at, b"for Selected Code Phase Assignments\n\n");
-    at = text::put_text(
-        page,
-        at,
-        b"PRN  Advance     P-code, left-to-right from beginning of GPS week (hexadecimal)\n",
-    );
-    put_rows(page, at, Table::FirstChips, p_code::SELECTED_ROWS)
-}
-
-fn put_6_iv(page: &mut [u8]) -> usize {
-    let mut at = text::put_text(
-        page,
-        0,
-        b"IS-GPS-200 Table 6-IV. Last 1024 P-code Chips of the Week ",
-    );
-    at = text::put_text(page, at, b"for Selected Code Phase Assignments\n\n");
-    at = text::put_text(
-        page,
-        at,
-        b"PRN  Advance     P-code, left-to-right to last chip of GPS week (hexadecimal)\n",
-    );
-    put_rows(page, at, Table::LastChips, p_code::SELECTED_ROWS)
-}
-
-fn put_705_3_i(page: &mut [u8]) -> usize {
-    let mut at = text::put_text(page, 0, b"IS-GPS-705 Table 3-I. Code Phase Assignments: ");
-    at = text::put_text(page, at, b"initial XB code state\n\n");
-    at = text::put_text(page, at, b"PRN  I5             Q5\n");
-    put_rows(page, at, Table::XbStates, phases::PRNS)
-}
-
-pub fn put_table(page: &mut [u8], table: Table) -> usize {
-    match table {
-        Table::CodePhases => put_3_ia(page),
-        Table::L2States => put_3_iia(page),
-        Table::ResetTiming => put_3_vi(page),
-        Table::FinalVectors => put_3_vii(page),
-        Table::FirstChips => put_6_iii(page),
-        Table::LastChips => put_6_iv(page),
-        Table::XbStates => put_705_3_i(page),
-    }
+    at
 }

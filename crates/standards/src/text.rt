@@ -3,13 +3,6 @@
 ghost use Prim.Native.Nat.{_<_};
 use libc::STDOUT_FILENO;
 
-// Chips to a digit, in binary, octal and hexadecimal.
-pub const BINARY: usize = 1;
-
-pub const OCTAL: usize = 3;
-
-pub const HEXADECIMAL: usize = 4;
-
 pub fn put(page: &mut [u8], at: usize, byte: u8) -> usize {
     if at < page.len() {
         page[at] = byte;
@@ -28,12 +21,13 @@ pub fn put_text(page: &mut [u8], from: usize, text: &[u8]) -> usize {
     at
 }
 
-pub fn put_spaces(page: &mut [u8], from: usize, count: usize) -> usize {
+// A byte in all columns of a width that are not taken.
+pub fn put_fill(page: &mut [u8], from: usize, byte: u8, taken: usize, width: usize) -> usize {
     let mut at = from;
-    let mut left = count;
-    while 0 < left {
-        at = put(page, at, b' ');
-        left -= 1;
+    let mut i = taken;
+    while i < width {
+        at = put(page, at, byte);
+        i += 1;
     }
     at
 }
@@ -43,10 +37,26 @@ pub fn pad(page: &mut [u8], at: usize, began: usize, column: usize) -> usize {
     if at < began {
         return at;
     }
-    if column < at - began {
-        return at;
+    put_fill(page, at, b' ', at - began, column)
+}
+
+// ---- bits
+
+// What a digit stands for: one chip or stage, three, or four.
+pub enum Digits {
+    Binary,
+    Octal,
+    Hexadecimal,
+}
+
+fn bits_to_a(digit: Digits) -> usize
+    ensures { λ r. ⌜ 0 < r ⌝ }
+{
+    match digit {
+        Digits::Binary => 1,
+        Digits::Octal => 3,
+        Digits::Hexadecimal => 4,
     }
-    put_spaces(page, at, column - (at - began))
 }
 
 fn digit_glyph(digit: u8) -> u8 {
@@ -61,9 +71,8 @@ fn digit_glyph(digit: u8) -> u8 {
 
 // Chips or stages as one number, the first of them its highest digit in base two. If they do not fill the digits the first digit has fewer, as in the standards' octal: ten
 // chips are one digit of one chip and three digits of three.
-pub fn put_bits(page: &mut [u8], from: usize, bits: &[u8], group: usize) -> usize
-    requires { ⌜ 0 < group ⌝ }
-{
+pub fn put_bits(page: &mut [u8], from: usize, bits: &[u8], digits: Digits) -> usize {
+    let group = bits_to_a(digits);
     let mut at = from;
     let mut digit: u8 = 0;
     let mut i = 0;
@@ -78,46 +87,27 @@ pub fn put_bits(page: &mut [u8], from: usize, bits: &[u8], group: usize) -> usiz
     at
 }
 
-pub fn put_decimal(page: &mut [u8], at: usize, n: u64) -> usize {
+// ---- numbers
+
+// At the right of so many columns, which a fill is put into.
+pub fn put_right(page: &mut [u8], from: usize, n: u64, width: usize, fill: u8) -> usize {
     let mut digits = [0u8; 20];
     let count = io::decimal(n, &mut digits);
+    let at = put_fill(page, from, fill, count, width);
     put_text(page, at, &digits[..count])
 }
 
-// How many columns are left of a number of so many digits.
-fn columns_left(width: usize, digits: usize) -> usize {
-    if digits < width {
-        return width - digits;
-    }
-    0
-}
-
-// At the right of so many columns.
-pub fn put_right(page: &mut [u8], from: usize, n: u64, width: usize) -> usize {
-    let mut digits = [0u8; 20];
-    let count = io::decimal(n, &mut digits);
-    let at = put_spaces(page, from, columns_left(width, count));
-    put_text(page, at, &digits[..count])
-}
-
-// A comma, where a group of three digits begins that is not the first.
-fn put_comma(page: &mut [u8], at: usize, before: usize, left: usize) -> usize {
-    if before == 0 {
-        return at;
-    }
-    if 0 < left % 3 {
-        return at;
-    }
-    put(page, at, b',')
-}
-
+// With a comma where groups of three are left.
 fn put_groups(page: &mut [u8], from: usize, digits: &[u8]) -> usize {
     let mut at = from;
     let mut i = 0;
     while i < digits.len() {
-        at = put_comma(page, at, i, digits.len() - i);
         at = put(page, at, digits[i]);
         i += 1;
+        let left = digits.len() - i;
+        if (0 < left) & (left % 3 == 0) {
+            at = put(page, at, b',');
+        }
     }
     at
 }
@@ -129,13 +119,17 @@ pub fn put_grouped(page: &mut [u8], at: usize, n: u64) -> usize {
     put_groups(page, at, &digits[..count])
 }
 
-// The last three digits, zeros at the left, as Tables 6-III and 6-IV write a PRN.
-pub fn put_three_digits(page: &mut [u8], from: usize, n: u64) -> usize {
-    let mut at = from;
-    at = put(page, at, digit_glyph((n / 100 % 10) as u8));
-    at = put(page, at, digit_glyph((n / 10 % 10) as u8));
-    put(page, at, digit_glyph((n % 10) as u8))
+// A word, and the number that belongs to it.
+pub fn put_counted(page: &mut [u8], from: usize, word: &[u8], n: u64) -> usize {
+    let at = put_text(page, from, word);
+    put_grouped(page, at, n)
 }
+
+pub fn put_refused(page: &mut [u8], at: usize, refusal: u32) -> usize {
+    put_counted(page, at, b"refused ", refusal as u64)
+}
+
+// ---- the page
 
 // Whether all of the page before `end` was written to standard output, in one write where the system takes it.
 pub fn write_page(page: &[u8], end: usize) -> bool {

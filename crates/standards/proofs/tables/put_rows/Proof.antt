@@ -1,17 +1,20 @@
 -- `standards::tables::put_rows` does nothing undefined and ends.
 -- Assumes nothing.
 use mathlib.Core.Path.{_≡_}
-use Prim.Native.Nat.{_-_, _≤_}
+use Prim.Native.Nat.{_-_}
 use lib.ListN.{length}
 use borrow.Author.Needs.{needs}
 use Rattle.standards.proofs.tables.put_rows.Statement.{statement}
 use Rattle.standards.proofs.tables.put_rows.Tie as tie
 
 abbrev Inv-loop : tie.InvT-loop
-Inv-loop page₀ from table count at₀ row₀ page at row = (row ≤ count) × (length page ≡ length page₀)
+Inv-loop page₀ from table count at₀ row₀ page at row = length page ≡ length page₀
 
 abbrev μ-loop : tie.MeasureT-loop
 μ-loop page₀ from table count at₀ row₀ page at row = count - row
+
+rows-requires : tie.Need-rows-requires Inv-loop μ-loop
+rows-requires c κs = search needs
 
 loop-holds : tie.Need-loop-holds Inv-loop μ-loop
 loop-holds c = search needs
@@ -22,17 +25,11 @@ add-row c = search needs
 put-row-requires : tie.Need-put-row-requires Inv-loop μ-loop
 put-row-requires c κs = search needs
 
-put-requires : tie.Need-put-requires Inv-loop μ-loop
-put-requires c κs = search needs
-
 loop-less : tie.Need-loop-less Inv-loop μ-loop
 loop-less c = search needs
 
 loop-again : tie.Need-loop-again Inv-loop μ-loop
 loop-again c = search needs
-
-put-requires-2 : tie.Need-put-requires-2 Inv-loop μ-loop
-put-requires-2 c κs = search needs
 
 same-length : tie.Need-same-length Inv-loop μ-loop
 same-length c = search needs
@@ -46,12 +43,11 @@ put-rows-spec =
     (tie.spec
     Inv-loop
     μ-loop
+    rows-requires
     loop-holds
     add-row
     put-row-requires
-    put-requires
     loop-less
     loop-again
-    put-requires-2
     same-length
     returns)

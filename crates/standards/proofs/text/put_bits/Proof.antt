@@ -13,6 +13,9 @@ Inv-loop page₀ from bits group at₀ digit₀ i₀ page at digit i = (i ≤ le
 abbrev μ-loop : tie.MeasureT-loop
 μ-loop page₀ from bits group at₀ digit₀ i₀ page at digit i = length bits - i
 
+bits-to-a-requires : tie.Need-bits-to-a-requires Inv-loop μ-loop
+bits-to-a-requires c κs = search needs
+
 loop-holds : tie.Need-loop-holds Inv-loop μ-loop
 loop-holds c = search needs
 
@@ -64,6 +67,7 @@ put-bits-spec =
     (tie.spec
     Inv-loop
     μ-loop
+    bits-to-a-requires
     loop-holds
     mul-digit
     shared-slice-read-digit

@@ -16,12 +16,6 @@ abbrev μ-loop : tie.MeasureT-loop
 loop-holds : tie.Need-loop-holds Inv-loop μ-loop
 loop-holds c = search needs
 
-sub-put-comma : tie.Need-sub-put-comma Inv-loop μ-loop
-sub-put-comma c = search needs
-
-put-comma-requires : tie.Need-put-comma-requires Inv-loop μ-loop
-put-comma-requires c κs = search needs
-
 shared-slice-read-put : tie.Need-shared-slice-read-put Inv-loop μ-loop
 shared-slice-read-put c = search needs
 
@@ -31,11 +25,23 @@ put-requires c κs = search needs
 add-i : tie.Need-add-i Inv-loop μ-loop
 add-i c = search needs
 
+sub-left : tie.Need-sub-left Inv-loop μ-loop
+sub-left c = search needs
+
+put-requires-2 : tie.Need-put-requires-2 Inv-loop μ-loop
+put-requires-2 c κs = search needs
+
 loop-less : tie.Need-loop-less Inv-loop μ-loop
 loop-less c = search needs
 
 loop-again : tie.Need-loop-again Inv-loop μ-loop
 loop-again c = search needs
+
+loop-less-2 : tie.Need-loop-less-2 Inv-loop μ-loop
+loop-less-2 c = search needs
+
+loop-again-2 : tie.Need-loop-again-2 Inv-loop μ-loop
+loop-again-2 c = search needs
 
 same-length : tie.Need-same-length Inv-loop μ-loop
 same-length c = search needs
@@ -50,12 +56,14 @@ put-groups-spec =
     Inv-loop
     μ-loop
     loop-holds
-    sub-put-comma
-    put-comma-requires
     shared-slice-read-put
     put-requires
     add-i
+    sub-left
+    put-requires-2
     loop-less
     loop-again
+    loop-less-2
+    loop-again-2
     same-length
     returns)

@@ -1,11 +1,11 @@
--- `standards::phases::xb_state` does nothing undefined and ends.
+-- `standards::chips::xb_state` does nothing undefined and ends.
 -- Assumes nothing.
 use mathlib.Core.Path.{_≡_}
 use Prim.Native.Nat.{_-_, _≤_}
 use lib.ListN.{length, length-set}
 use borrow.Author.Needs.{needs}
-use Rattle.standards.proofs.phases.xb_state.Statement.{statement}
-use Rattle.standards.proofs.phases.xb_state.Tie as tie
+use Rattle.standards.proofs.chips.xb_state.Statement.{statement}
+use Rattle.standards.proofs.chips.xb_state.Tie as tie
 
 abbrev Inv-loop : tie.InvT-loop
 Inv-loop chips state₀ left₀ i₀ state left i = (left ≤ length state) × ((i ≤ length chips) × (length state ≡ length state₀))
