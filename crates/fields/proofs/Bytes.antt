@@ -1,7 +1,7 @@
 -- Fields and numbers, one byte further on: what the loops over a slice need, which at byte i have `drop i` of it before them.
 --     before-stop, before-more, before-end    the bytes before a space
 --     take-before, after-drop, after-none     what stands before it and after it, as parts
---     before-short, sides-whole               how long these are
+--     sides-whole                             how long these are
 --     cut-is, cut-long, part-from, past-is    the same of the parts that `cut` and `past` find
 --     digits-go, digits-stop, digits-end      digits
 --     digit-at, value-more, value-end         the number that they stand for
@@ -34,14 +34,6 @@ module _ (l : List ℕ) (i : ℕ) (h : i < length l) where
 
 pub before-end : (l : List ℕ) (i : ℕ) → length l ≤ i → length (before (drop i l)) ≡ 0
 before-end l i h = rw (drop-of-length-le l h)
-
-pub before-short : (l : List ℕ) → length (before l) ≤ length l
-before-short [] = omega arith
-before-short (b ∷ bs) = by (eqb b 32) (before-short bs)
-  where
-    by : (t : Bool) → length (before bs) ≤ length bs → length (cond t [] (b ∷ before bs)) ≤ suc (length bs)
-    by true h = omega arith
-    by false h = omega (arith, h)
 
 -- a space and what stands on both sides of it are the whole
 pub sides-whole : (l : List ℕ) → length l ≤ length (before l) + 1 + length (after l)

@@ -1,6 +1,5 @@
 -- Bytes written to a buffer from a place on.
 --     written-none, written-one    no byte, and one
---     written-start                from the buffer's start
 --     written-length               the buffer stays as long
 --     written-behind               behind a list that stands before what the buffer had
 --     written-join                 more bytes behind those written
@@ -12,7 +11,7 @@ use Prim.Native.Nat.{ℕ, _+_, _-_, _≤_, _<_}
 use mathlib.Core.List.{List, [], _∷_, _++_, map, map-append, append-assoc}
 use mathlib.Core.Path.{_≡_, refl, sym, ap, subst, _∙_}
 use native.Mathlib.Numerals.{add-one}
-use native.Mathlib.Nat.{zero-add, add-zero, add-assoc}
+use native.Mathlib.Nat.{add-zero, add-assoc}
 use native.Mathlib.Omega.{arith}
 use lib.ListN.{length, take, drop, getD, set, take-append-drop, length-append, length-drop, length-map}
 use lib.Seq.{set-split, take-at, drop-at, drop-drop, length-take-le, take-suc}
@@ -25,9 +24,6 @@ written-none n l = rw (add-zero n) (sym (take-append-drop n l))
 
 pub written-one : (n b : ℕ) (l : List ℕ) → n < length l → set l n b ≡ written n (b ∷ []) l
 written-one n b l h = rw (add-one n) (set-split l n b h)
-
-pub written-start : (x l : List ℕ) → written 0 x l ≡ x ++ drop (length x) l
-written-start x l = rw (zero-add (length x))
 
 -- a list x before what is left of the old buffer, and y written behind x
 pub written-behind : (x y old : List ℕ) (n : ℕ) → length x ≡ n → written n y (x ++ drop n old) ≡ (x ++ y) ++ drop (n + length y) old
