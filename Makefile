@@ -17,12 +17,12 @@ run: codes
 	@printf '%s\n' "$$LINE" | target/bin/codes
 	@echo 'For more: type lines of SIGNAL PRN PLACE COUNT into target/bin/codes, or target/bin/codes <FILE >REPLIES'
 
-# Proves the line program and all below it, and builds it.
+# Proves the line program and all below it, builds it, and tests how it reads and writes, which no proof covers.
 codes:
 	$(call need,rt,the Rattle toolchain (rt))
 	@mkdir -p target
 	@echo 'proving codes and what it rests on, some three minutes the first time (target/codes.log)'
-	@rt check codes >target/codes.log 2>&1 || { cat target/codes.log >&2; exit 1; }
+	@{ rt check codes && tests/codes/run.sh; } >target/codes.log 2>&1 || { cat target/codes.log >&2; exit 1; }
 
 # Proves the call for C and all below it, and writes it as an archive.
 lib:
@@ -34,11 +34,10 @@ lib:
 	@echo 'header:  $(header)'
 	@echo 'link:    cc prog.c -Iinclude $(archive)'
 
-# From nothing: the C side, the line program's reading and writing, the standards' tables; then every proof, every wrong answer that has to be refused,
-# every program. The last line is rt's verdict, "N passed, 0 failed".
-test: lib codes
+# From nothing: the C side, the standards' tables; then every proof, every wrong answer that has to be refused, every program.
+# The last line is rt's verdict, "N passed, 0 failed".
+test: lib
 	$(call need,$(firstword $(CC)),a C compiler ($(CC)))
 	@CC='$(CC)' tests/host/run.sh $(archive)
-	@tests/codes/run.sh
 	@tests/standards/run.sh
 	@rt ci
