@@ -22,10 +22,11 @@ use Rattle.gps_chips.proofs.Answers.{Admitted, admitted}
 use Rattle.machine.proofs.Tests.{four}
 use Rattle.fields.specs.Fields.{after, isNumber, value, shorn}
 use Rattle.fields.proofs.Bytes.{number-is, sides-whole, shorn-short}
-use Rattle.lines.specs.Buffers.{Begins}
+use Rattle.texts.specs.Texts.{refusedLine, chipDigit}
+use Rattle.texts.specs.Buffers.{Begins}
+use Rattle.texts.proofs.Written.{begins-byte, begins-as, Room, room-none, room-more}
 use Rattle.lines.specs.Inner.{Fits}
-use Rattle.lines.proofs.Written.{begins-byte, begins-as, Room, room-none, room-more}
-use Rattle.lines.specs.Lines.{signalField, prnField, placeField, countField, isCount, lineRefusal, refusedLine, echoed, chipDigit, answeredWith, replyTo, areNumbers, fieldsReply, lineReply}
+use Rattle.lines.specs.Lines.{signalField, prnField, placeField, countField, isCount, lineRefusal, echoed, answeredWith, replyTo, areNumbers, fieldsReply, lineReply}
 
 -- ---- the count
 

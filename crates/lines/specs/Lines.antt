@@ -1,7 +1,7 @@
--- A line of the line program and its reply, as bytes, for every line: document 01, "Line program". Bytes are those of ASCII: 10 is a newline, 32 a
--- space, 48 to 57 are the digits.
+-- A line of the line program and its reply, as bytes, for every line: document 01, "Line program".
+-- Bytes are those of ASCII: 10 is a newline, 32 a space.
 -- Assumes nothing.
-use Prim.Native.Nat.{ℕ, _+_}
+use Prim.Native.Nat.{ℕ}
 use mathlib.Core.Bool.{Bool, cond, _&&_}
 use mathlib.Core.List.{List, [], _∷_, _++_, map}
 use lib.Dec.{ltb, leb, eqb}
@@ -9,6 +9,7 @@ use Rattle.machine.specs.Signals.{weekOf}
 use Rattle.machine.specs.Machine.{isSignal, isPrn}
 use Rattle.fields.specs.Fields.{before, after, isNumber, value, shorn}
 use Rattle.gps_chips.specs.Chips.{byTheMachine}
+use Rattle.texts.specs.Texts.{refusedLine, chipDigit}
 
 -- ---- the form of a line: "signal, PRN, place, count, each 1 to 13 digits, one space between"
 
@@ -39,17 +40,9 @@ lineRefusal signal prn place count =
 
 -- ---- the reply: "Each output line ends in a newline."
 
--- `refused N`, of one digit
-abbrev pub refusedLine : ℕ → List ℕ
-refusedLine n = 114 ∷ 101 ∷ 102 ∷ 117 ∷ 115 ∷ 101 ∷ 100 ∷ 32 ∷ (48 + n) ∷ 10 ∷ []
-
 -- "the first three numbers as read, leading zeros dropped", each with the space after it
 abbrev pub echoed : List ℕ → List ℕ
 echoed field = shorn field ++ (32 ∷ [])
-
--- a chip as text, 0 or 1
-abbrev pub chipDigit : ℕ → ℕ
-chipDigit chip = cond (eqb chip 0) 48 49
 
 -- ".. then the chips that Chips gives"
 abbrev pub answeredWith : List ℕ → List ℕ → List ℕ → List ℕ → List ℕ

@@ -1,70 +1,26 @@
-// A line of the line program, and its reply.
+// A line of the line program, and its reply. The four fields are cut first, and all else speaks of them.
 ghost use mathlib.Core.Path.{_≡_};
 ghost use mathlib.Core.Bool.{cond};
-ghost use mathlib.Core.List.{map};
 ghost use Prim.Native.Nat.{_≤_, _<_, _+_};
 ghost use lib.ListN.{length};
 ghost use Rattle.engine.specs.Replies.{written};
-ghost use Rattle.lines.specs.Lines.{areNumbers, isCount, refusedLine, echoed, chipDigit, answeredWith, replyTo, fieldsReply, lineReply};
-ghost use Rattle.lines.specs.Buffers.{Begins};
+ghost use Rattle.texts.specs.Buffers.{Begins};
+ghost use Rattle.lines.specs.Lines.{areNumbers, isCount, echoed, answeredWith, replyTo, fieldsReply, lineReply};
 ghost use Rattle.lines.specs.Inner.{Fits};
 
 // The most chips that a line may ask for.
 const MOST_COUNT: usize = 64;
 
-// ---- writing to a buffer: each of these writes from `at` on and answers where it ended
-
-fn put(src: &[u8], out: &mut [u8], at: usize) -> usize
-    requires { ⌜ at + length (now src) ≤ length (now out) ⌝ }
-    ensures { λ r. ⌜ r ≡ at + length (now (src .entry)) ⌝ }
-    ensures { λ r. ⌜ now (out .exit) ≡ written at (now (src .entry)) (now (out .entry)) ⌝ }
-{
-    bytes::copy(src, &mut out[at..]);
-    at + src.len()
-}
-
-// A number, leading zeros dropped, and a space.
+// A number, leading zeros dropped, and a space, written from `at` on. Answers where it ended.
 fn put_number(field: &[u8], out: &mut [u8], at: usize) -> usize
     requires { ⌜ at + length (now field) < length (now out) ⌝ }
     ensures { λ r. ⌜ r ≡ at + length (echoed (now (field .entry))) ⌝ }
     ensures { λ r. ⌜ now (out .exit) ≡ written at (echoed (now (field .entry))) (now (out .entry)) ⌝ }
 {
-    let end = put(&field[fields::leading_zeros(field)..], out, at);
+    let end = texts::put(&field[fields::leading_zeros(field)..], out, at);
     out[end] = b' ';
     end + 1
 }
-
-fn chip_digit(chip: u8) -> u8
-    ensures { λ r. ⌜ r ≡ chipDigit chip ⌝ }
-{
-    if chip == 0 { b'0' } else { b'1' }
-}
-
-fn put_chips(chips: &[u8], out: &mut [u8], at: usize) -> usize
-    requires { ⌜ at + length (now chips) ≤ length (now out) ⌝ }
-    ensures { λ r. ⌜ r ≡ at + length (map chipDigit (now (chips .entry))) ⌝ }
-    ensures { λ r. ⌜ now (out .exit) ≡ written at (map chipDigit (now (chips .entry))) (now (out .entry)) ⌝ }
-{
-    let mut i = 0;
-    while i < chips.len() {
-        out[at + i] = chip_digit(chips[i]);
-        i += 1;
-    }
-    at + i
-}
-
-// The reply `refused N`, at the start of the buffer.
-pub fn refused(n: u32, out: &mut [u8]) -> usize
-    requires { ⌜ n ≤ 9 ⌝ }
-    requires { ⌜ 10 ≤ length (now out) ⌝ }
-    ensures { λ r. ⌜ Begins (refusedLine n) (now (out .entry)) (now (out .exit)) r ⌝ }
-{
-    let mut text = *b"refused N\n";
-    text[8] = (48 + n) as u8;
-    put(&text, out, 0)
-}
-
-// ---- a line and its reply: the four fields are cut first, and all else speaks of them
 
 // What a line asks for.
 struct Asked {
@@ -91,7 +47,7 @@ fn answered(signal: &[u8], prn: &[u8], place: &[u8], chips: &[u8], out: &mut [u8
     let first = put_number(signal, out, 0);
     let second = put_number(prn, out, first);
     let third = put_number(place, out, second);
-    let end = put_chips(chips, out, third);
+    let end = texts::put_chips(chips, out, third);
     out[end] = b'\n';
     end + 1
 }
@@ -123,10 +79,10 @@ fn answer(
 {
     let refusal = gps_chips::gps_chips(asked.signal, asked.prn, asked.place, chips);
     if 0 < refusal {
-        return refused(refusal, out);
+        return texts::refused(refusal, out);
     }
     if chips.len() == 0 {
-        return refused(5, out);
+        return texts::refused(5, out);
     }
     answered(signal, prn, place, chips, out)
 }
@@ -137,7 +93,7 @@ fn reply_fields(signal: &[u8], prn: &[u8], place: &[u8], count: &[u8], out: &mut
     ensures { λ r. ⌜ Begins (fieldsReply (now (signal .entry)) (now (prn .entry)) (now (place .entry)) (now (count .entry))) (now (out .entry)) (now (out .exit)) r ⌝ }
 {
     if !are_numbers(signal, prn, place, count) {
-        return refused(9, out);
+        return texts::refused(9, out);
     }
     let asked = Asked {
         signal: fields::value_of(signal),

@@ -17,12 +17,13 @@ use lib.ListN.{length, take, getD, set, length-append, length-take}
 use lib.Seq.{take-all, take-take, take-suc-set, take-append-le, length-take-le, take-suc}
 use borrow.Author.Tests.{leb-true, leb-false, eq-eqb, ne-eqb}
 use Rattle.engine.specs.Replies.{written}
-use Rattle.lines.specs.Lines.{refusedLine, lineReply}
+use Rattle.texts.specs.Texts.{refusedLine}
+use Rattle.texts.specs.Buffers.{Begins}
+use Rattle.lines.specs.Lines.{lineReply}
 use Rattle.streams.specs.Stream.{next, said, rest, replies, lastReply, kept, held}
-use Rattle.lines.specs.Buffers.{Begins}
 use Rattle.streams.specs.declared.Pending.{Pending}
+use Rattle.texts.proofs.Written.{begins-none, begins-more, begins-fits}
 use Rattle.lines.proofs.LineReplies.{long-refused}
-use Rattle.lines.proofs.Written.{begins-none, begins-more, begins-fits}
 
 -- ---- the bytes kept
 

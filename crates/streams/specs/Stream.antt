@@ -5,7 +5,8 @@ use mathlib.Core.Bool.{cond}
 use mathlib.Core.List.{List, [], _∷_, _++_}
 use lib.Dec.{eqb}
 use lib.ListN.{take}
-use Rattle.lines.specs.Lines.{lineReply, refusedLine}
+use Rattle.texts.specs.Texts.{refusedLine}
+use Rattle.lines.specs.Lines.{lineReply}
 use Rattle.streams.specs.declared.Pending.{Pending}
 
 -- the bytes of the line that has no newline yet, after one byte more

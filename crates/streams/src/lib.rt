@@ -4,8 +4,8 @@ ghost use mathlib.Core.List.{[], _∷_, _++_};
 ghost use Prim.Native.Nat.{_≤_, _<_, _+_};
 ghost use lib.ListN.{length, take};
 ghost use Rattle.engine.specs.Replies.{written};
+ghost use Rattle.texts.specs.Buffers.{Begins};
 ghost use Rattle.lines.specs.Lines.{lineReply};
-ghost use Rattle.lines.specs.Buffers.{Begins};
 ghost use Rattle.streams.specs.Stream.{next, said, rest, replies, lastReply, kept, held};
 
 // So many bytes of a line are kept, one more than the longest well-formed line has: four numbers of 13 digits and three spaces.
@@ -130,5 +130,5 @@ pub fn finish(s: Pending, out: &mut [u8; 10]) -> usize
     if s.len == 0 {
         return 0;
     }
-    lines::refused(9, out)
+    texts::refused(9, out)
 }

@@ -4,7 +4,7 @@ use mathlib.Core.Path.{sym}
 use lib.Seq.{length-take-le}
 use lib.ListN.{replicate}
 use borrow.Author.Needs.{needs}
-use Rattle.lines.proofs.Written.{begins-within}
+use Rattle.texts.proofs.Written.{begins-within}
 use Rattle.streams.specs.Stream.{lastReply, held}
 use Rattle.codes.proofs.finish.Statement.{statement}
 use Rattle.codes.proofs.finish.Tie as tie

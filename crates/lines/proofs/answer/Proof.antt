@@ -6,8 +6,9 @@ use native.Mathlib.Omega.{arith}
 use lib.ListN.{length}
 use borrow.Author.Needs.{needs}
 use Rattle.lines.proofs.LineReplies.{few-asked, reply-refused, reply-no-count, reply-answered}
-use Rattle.lines.specs.Lines.{refusedLine, answeredWith, replyTo}
-use Rattle.lines.proofs.Written.{begins-as}
+use Rattle.lines.specs.Lines.{answeredWith, replyTo}
+use Rattle.texts.specs.Texts.{refusedLine}
+use Rattle.texts.proofs.Written.{begins-as}
 use Rattle.lines.proofs.answer.Statement.{statement}
 use Rattle.lines.proofs.answer.Tie as tie
 

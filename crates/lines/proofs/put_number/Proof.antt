@@ -6,7 +6,7 @@ use mathlib.Core.List.{List, [], _∷_}
 use native.Mathlib.Omega.{arith}
 use lib.ListN.{length, take, drop, set, length-append}
 use borrow.Author.Needs.{needs}
-use Rattle.lines.proofs.Written.{byte-more}
+use Rattle.texts.proofs.Written.{byte-more}
 use Rattle.engine.specs.Replies.{written}
 use Rattle.fields.specs.Fields.{shorn}
 use Rattle.fields.proofs.Bytes.{part-from, shorn-short}

@@ -8,7 +8,7 @@ use Rattle.lines.proofs.LineReplies.{line-is}
 use Rattle.lines.specs.Lines.{fieldsReply, lineReply}
 use Rattle.fields.proofs.Bytes.{cut-is, cut-long, past-is}
 use Rattle.fields.specs.Fields.{before, after}
-use Rattle.lines.proofs.Written.{begins-as}
+use Rattle.texts.proofs.Written.{begins-as}
 use Rattle.lines.proofs.reply.Statement.{statement}
 use Rattle.lines.proofs.reply.Tie as tie
 

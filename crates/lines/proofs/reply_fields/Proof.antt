@@ -11,8 +11,9 @@ use borrow.Author.Tests.{not-true, not-false}
 use borrow.Author.Needs.{needs}
 use Rattle.lines.proofs.LineReplies.{numbers, reply-malformed, reply-numbers}
 use Rattle.lines.specs.Inner.{Fits}
-use Rattle.lines.specs.Lines.{areNumbers, refusedLine, replyTo, fieldsReply}
-use Rattle.lines.proofs.Written.{begins-as}
+use Rattle.lines.specs.Lines.{areNumbers, replyTo, fieldsReply}
+use Rattle.texts.specs.Texts.{refusedLine}
+use Rattle.texts.proofs.Written.{begins-as}
 use Rattle.lines.proofs.reply_fields.Statement.{statement}
 use Rattle.lines.proofs.reply_fields.Tie as tie
 

@@ -8,7 +8,7 @@ use lib.Seq.{length-take-le}
 use lib.ListN.{length, take, drop, length-take}
 use borrow.Author.Needs.{needs}
 use Rattle.streams.proofs.Streams.{held-again}
-use Rattle.lines.proofs.Written.{begins-fits}
+use Rattle.texts.proofs.Written.{begins-fits}
 use Rattle.streams.specs.Stream.{held}
 use Rattle.lines.specs.Lines.{lineReply}
 use Rattle.runs.proofs.ChipsSoFar.{put-back}

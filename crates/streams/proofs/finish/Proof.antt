@@ -7,8 +7,8 @@ use lib.ListN.{length}
 use borrow.Author.Needs.{needs}
 use Rattle.streams.proofs.Streams.{none-held, some-held}
 use Rattle.streams.specs.Stream.{lastReply, held}
-use Rattle.lines.specs.Lines.{refusedLine}
-use Rattle.lines.proofs.Written.{begins-as}
+use Rattle.texts.specs.Texts.{refusedLine}
+use Rattle.texts.proofs.Written.{begins-as}
 use Rattle.streams.proofs.finish.Statement.{statement}
 use Rattle.streams.proofs.finish.Tie as tie
 

@@ -7,7 +7,7 @@ use native.Mathlib.Nat.{add-zero}
 use lib.ListN.{length}
 use borrow.Author.Needs.{needs}
 use Rattle.streams.proofs.Streams.{newline-next, newline-said, other-next, other-said}
-use Rattle.lines.proofs.Written.{written-none}
+use Rattle.texts.proofs.Written.{written-none}
 use Rattle.streams.specs.Stream.{held, kept}
 use Rattle.engine.specs.Replies.{written}
 use Rattle.streams.proofs.turn.Statement.{statement}

@@ -1,8 +1,8 @@
--- `lines::chip_digit` meets its contract.
+-- `texts::chip_digit` meets its contract.
 -- Assumes nothing.
 use borrow.Author.Tests.{eq-eqb, ne-eqb}
-use Rattle.lines.proofs.chip_digit.Statement.{statement}
-use Rattle.lines.proofs.chip_digit.Tie as tie
+use Rattle.texts.proofs.chip_digit.Statement.{statement}
+use Rattle.texts.proofs.chip_digit.Tie as tie
 
 returns : tie.Need-returns
 returns c = rw (eq-eqb (c .before .args .chip) 0 (c .if1 .taken))

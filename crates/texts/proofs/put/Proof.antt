@@ -1,4 +1,4 @@
--- `lines::put` meets its contract.
+-- `texts::put` meets its contract.
 -- Assumes nothing.
 use Prim.Native.Nat.{ℕ, _-_}
 use mathlib.Core.Path.{_≡_, refl, ap, _∙_}
@@ -7,8 +7,8 @@ use lib.ListN.{length, take, drop}
 use lib.Seq.{take-length}
 use borrow.Author.Needs.{needs}
 use Rattle.runs.proofs.ChipsSoFar.{put-back}
-use Rattle.lines.proofs.put.Statement.{statement}
-use Rattle.lines.proofs.put.Tie as tie
+use Rattle.texts.proofs.put.Statement.{statement}
+use Rattle.texts.proofs.put.Tie as tie
 
 sub-copy : tie.Need-sub-copy
 sub-copy c = search needs

@@ -1,11 +1,11 @@
--- `lines::refused` meets its contract.
+-- `texts::refused` meets its contract.
 -- Assumes nothing.
 use mathlib.Core.List.{[]}
 use borrow.Author.Needs.{needs}
-use Rattle.lines.proofs.Written.{begins-none, begins-more}
-use Rattle.lines.specs.Lines.{refusedLine}
-use Rattle.lines.proofs.refused.Statement.{statement}
-use Rattle.lines.proofs.refused.Tie as tie
+use Rattle.texts.proofs.Written.{begins-none, begins-more}
+use Rattle.texts.specs.Texts.{refusedLine}
+use Rattle.texts.proofs.refused.Statement.{statement}
+use Rattle.texts.proofs.refused.Tie as tie
 
 add-text : tie.Need-add-text
 add-text c = search needs

@@ -16,8 +16,8 @@ use native.Mathlib.Omega.{arith}
 use lib.ListN.{length, take, drop, getD, set, take-append-drop, length-append, length-drop, length-map}
 use lib.Seq.{set-split, take-at, drop-at, drop-drop, length-take-le, take-suc}
 use Rattle.engine.specs.Replies.{written}
-use Rattle.lines.specs.Lines.{chipDigit}
-use Rattle.lines.specs.Buffers.{Begins}
+use Rattle.texts.specs.Texts.{chipDigit}
+use Rattle.texts.specs.Buffers.{Begins}
 
 pub written-none : (n : ℕ) (l : List ℕ) → l ≡ written n [] l
 written-none n l = rw (add-zero n) (sym (take-append-drop n l))

@@ -1,4 +1,4 @@
--- `lines::put_chips` meets its contract.
+-- `texts::put_chips` meets its contract.
 -- Assumes nothing.
 use Prim.Native.Nat.{ℕ, _+_, _-_, _≤_, _<_}
 use mathlib.Core.Path.{_≡_, refl, sym, ap, _∙_}
@@ -7,11 +7,11 @@ use native.Mathlib.Omega.{arith}
 use lib.Seq.{take-all}
 use lib.ListN.{length, take, set, length-map}
 use borrow.Author.Needs.{needs}
-use Rattle.lines.proofs.Written.{written-none, chip-more}
-use Rattle.lines.specs.Lines.{chipDigit}
+use Rattle.texts.proofs.Written.{written-none, chip-more}
+use Rattle.texts.specs.Texts.{chipDigit}
 use Rattle.engine.specs.Replies.{written}
-use Rattle.lines.proofs.put_chips.Statement.{statement}
-use Rattle.lines.proofs.put_chips.Tie as tie
+use Rattle.texts.proofs.put_chips.Statement.{statement}
+use Rattle.texts.proofs.put_chips.Tie as tie
 
 abbrev Inv-loop : tie.InvT-loop
 Inv-loop chips out₀ at i₀ out i = (i ≤ length chips) × ((length out ≡ length out₀) × ((at + length chips ≤ length out₀) × (out ≡ written at (map chipDigit (take i chips)) out₀)))
