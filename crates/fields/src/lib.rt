@@ -28,7 +28,7 @@ pub fn past(s: &[u8]) -> usize
     if n < s.len() { n + 1 } else { s.len() }
 }
 
-fn is_digit(b: u8) -> bool
+pub fn is_digit(b: u8) -> bool
     ensures { λ r. ⌜ r ≡ digit b ⌝ }
 {
     (b'0' <= b) & (b <= b'9')
@@ -62,7 +62,7 @@ fn wide(b: u8) -> u64
 }
 
 // What a digit stands for.
-fn digit_value(b: u8) -> u64
+pub fn digit_value(b: u8) -> u64
     requires { ⌜ 48 ≤ b ⌝ }
     ensures { λ r. ⌜ r ≡ b - 48 ⌝ }
 {

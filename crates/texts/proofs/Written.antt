@@ -3,6 +3,7 @@
 --     written-length               the buffer stays as long
 --     written-behind               behind a list that stands before what the buffer had
 --     written-join                 more bytes behind those written
+--     puts-more, puts-length, puts-room    the same of Puts, and the room left
 --     byte-more, chip-more         one byte behind them, and one chip as text
 --     Begins                       a list stands at the buffer's start: none, more bytes written behind it, one byte, and the length
 --     Room                         the same, with a bound of its length
@@ -17,7 +18,7 @@ use lib.ListN.{length, take, drop, getD, set, take-append-drop, length-append, l
 use lib.Seq.{set-split, take-at, drop-at, drop-drop, length-take-le, take-suc}
 use Rattle.engine.specs.Replies.{written}
 use Rattle.texts.specs.Texts.{chipDigit}
-use Rattle.texts.specs.Buffers.{Begins}
+use Rattle.texts.specs.Buffers.{Puts, Begins}
 
 pub written-none : (n : ℕ) (l : List ℕ) → l ≡ written n [] l
 written-none n l = rw (add-zero n) (sym (take-append-drop n l))
@@ -44,6 +45,24 @@ written-join n x y l h =
     ∙ written-behind (take n l ++ x) y l (n + length x) front
     ∙ rw (length-append x y, append-assoc x y (drop (n + (length x + length y)) l), sym (add-assoc n (length x) (length y)))
     (append-assoc (take n l ++ x) y (drop (n + length x + length y) l) ∙ append-assoc (take n l) x (y ++ drop (n + length x + length y) l))
+
+-- text behind text
+pub puts-more : (x y : List ℕ) (at m r : ℕ) (old mid new : List ℕ) → at ≤ length old → Puts x at old mid m → Puts y m mid new r → Puts (x ++ y) at old new r
+puts-more x y at m r old mid new h first then =
+    let end : at + length (x ++ y) ≡ at + length x + length y = rw (length-append x y) (sym (add-assoc at (length x) (length y))) in (
+      then .0 ∙ ap (λ (k : ℕ). k + length y) (first .0) ∙ sym end,
+      then .1
+          ∙ ap (λ (k : ℕ). written k y mid) (first .0)
+          ∙ ap (written (at + length x) y) (first .1)
+          ∙ written-join at x y old h,
+    )
+
+pub puts-length : (x : List ℕ) (at r : ℕ) (old new : List ℕ) → Puts x at old new r → at + length x ≤ length old → length new ≡ length old
+puts-length x at r old new p h = ap length (p .1) ∙ written-length at x old h
+
+-- the room left behind text of a bounded length
+pub puts-room : (x : List ℕ) (at r most more : ℕ) (old new : List ℕ) → Puts x at old new r → length x ≤ most → at + most + more ≤ length old → r + more ≤ length new
+puts-room x at r most more old new p short room = rw (puts-length x at r old new p (omega arith), p .0) (omega arith)
 
 -- one byte more
 pub byte-more : (n : ℕ) (x old : List ℕ) (b : ℕ) → n + length x < length old → set (written n x old) (n + length x) b ≡ written n (x ++ (b ∷ [])) old

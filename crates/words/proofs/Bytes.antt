@@ -1,0 +1,128 @@
+-- Words in a text, one byte further on: what the readers need, which at byte i have `drop i` of the text before them.
+--     none-left                                   at the text's end nothing is left
+--     first-digit, no-first, no-byte              a number's first digit
+--     on-mark, on-more, on-refused, on-end        the bytes behind it
+--     no-follow, follow                           whether a byte may follow
+-- Assumes nothing.
+use Prim.Native.Nat.{ℕ, suc, _+_, _-_, _*_, _/_, _≤_, _<_}
+use mathlib.Core.Bool.{Bool, true, false, cond, _&&_}
+use mathlib.Core.List.{List, [], _∷_}
+use mathlib.Core.Path.{_≡_, refl, sym, ap, _∙_}
+use native.Mathlib.Numerals.{add-one}
+use native.Mathlib.Omega.{arith}
+use lib.Dec.{ltb, leb, eqb}
+use lib.ListN.{length, drop, getD, drop-of-length-le}
+use lib.Seq.{drop-cons}
+use borrow.Author.Tests.{leb-true, leb-false, eq-eqb, ne-eqb, le-leb, lt-leb}
+use Rattle.machine.specs.declared.Mode.{Mode}
+use Rattle.machine.specs.declared.Mode.the-variants as modes
+use Rattle.fields.specs.Fields.{digit}
+use Rattle.words.specs.Words.{Read, found, missing, most32, digitsOn, readNumber, readRunning, heldFrom, readMode}
+use Rattle.words.proofs.Numbers.{on-digit}
+
+pub none-left : (l : List ℕ) → drop (length l) l ≡ []
+none-left l = drop-of-length-le l {i = length l} (omega arith)
+
+-- ---- a byte that may follow
+
+pub no-follow : (most n b : ℕ) → digit b ≡ false → false ≡ digit b && ltb 0 n && leb (n * 10 + (b - 48)) most
+no-follow most n b e = rw e refl
+
+-- the number with a digit more is few enough where the number is
+few : (most n v : ℕ) → v ≤ 9 → 9 ≤ most → leb n ((most - v) / 10) ≡ leb (n * 10 + v) most
+few most n v small large = by (leb (n * 10 + v) most) refl
+  where
+    by : (t : Bool) → leb (n * 10 + v) most ≡ t → leb n ((most - v) / 10) ≡ t
+    by true e = le-leb n ((most - v) / 10) (omega (arith, leb-true (n * 10 + v) most e))
+    by false e = lt-leb n ((most - v) / 10) (omega (arith, leb-false (n * 10 + v) most e))
+
+pub follow : (most n b v : ℕ) → digit b ≡ true → v ≡ b - 48 → v ≤ 9 → 9 ≤ most
+    → ltb 0 n && leb n ((most - v) / 10) ≡ digit b && ltb 0 n && leb (n * 10 + (b - 48)) most
+follow most n b v is value small large =
+    ap (λ (t : Bool). ltb 0 n && t) (few most n v small large ∙ ap (λ (x : ℕ). leb (n * 10 + x) most) value)
+    ∙ ap (λ (t : Bool). t && ltb 0 n && leb (n * 10 + (b - 48)) most) (sym is)
+
+-- ---- numbers
+
+module _ (most mark : ℕ) (l : List ℕ) (i : ℕ) where
+  pub no-byte : length l ≤ i → readNumber most mark (drop i l) ≡ missing 0
+  unfolding readNumber
+  no-byte h = rw (drop-of-length-le l h) refl
+
+  pub on-end : (n : ℕ) → length l ≤ i → digitsOn most mark n (drop i l) ≡ missing 0
+  on-end n h = rw (drop-of-length-le l h) refl
+
+module _ (most mark : ℕ) (l : List ℕ) (i : ℕ) (h : i < length l) where
+  pub no-first : digit (getD l i 0) ≡ false → readNumber most mark (drop i l) ≡ missing 0
+  unfolding readNumber
+  no-first e = ap (readNumber most mark) (drop-cons l i 0 h) ∙ ap (λ (t : Bool). cond t (digitsOn most mark (getD l i 0 - 48) (drop (suc i) l)) (missing 0)) e
+
+  pub first-digit : (v : ℕ) → digit (getD l i 0) ≡ true → v ≡ getD l i 0 - 48 → readNumber most mark (drop i l) ≡ digitsOn most mark v (drop (i + 1) l)
+  unfolding readNumber
+  first-digit v e value =
+      ap (readNumber most mark) (drop-cons l i 0 h)
+      ∙ ap (λ (t : Bool). cond t (digitsOn most mark (getD l i 0 - 48) (drop (suc i) l)) (missing 0)) e
+      ∙ ap (λ (x : ℕ). digitsOn most mark x (drop (suc i) l)) (sym value)
+      ∙ ap (λ (k : ℕ). digitsOn most mark v (drop k l)) (sym (add-one i))
+
+  on-byte : (n : ℕ) → digitsOn most mark n (drop i l) ≡ digitsOn most mark n (getD l i 0 ∷ drop (suc i) l)
+  on-byte n = ap (digitsOn most mark n) (drop-cons l i 0 h)
+
+  pub on-mark : (n : ℕ) → getD l i 0 ≡ mark → digitsOn most mark n (drop i l) ≡ found n (drop (i + 1) l)
+  on-mark n e = on-byte n ∙ rw (eq-eqb (getD l i 0) mark e, add-one i) refl
+
+  pub on-refused : (n : ℕ) → (getD l i 0 ≡ mark → ⊥) → digit (getD l i 0) && ltb 0 n && leb (n * 10 + (getD l i 0 - 48)) most ≡ false
+      → digitsOn most mark n (drop i l) ≡ missing 0
+  on-refused n other e =
+      on-byte n
+      ∙ ap
+      (λ (t : Bool).
+        cond
+          t
+          (found n (drop (suc i) l))
+          (cond
+          (digit (getD l i 0) && ltb 0 n && leb (n * 10 + (getD l i 0 - 48)) most)
+          (digitsOn most mark (n * 10 + (getD l i 0 - 48)) (drop (suc i) l))
+          (missing 0)))
+      (ne-eqb (getD l i 0) mark other)
+      ∙ ap (λ (t : Bool). cond t (digitsOn most mark (n * 10 + (getD l i 0 - 48)) (drop (suc i) l)) (missing 0)) e
+
+  pub on-more : (n v : ℕ) → (getD l i 0 ≡ mark → ⊥) → digit (getD l i 0) && ltb 0 n && leb (n * 10 + (getD l i 0 - 48)) most ≡ true
+      → v ≡ getD l i 0 - 48 → digitsOn most mark n (drop i l) ≡ digitsOn most mark (n * 10 + v) (drop (i + 1) l)
+  on-more n v other e value =
+      on-byte n
+      ∙ on-digit most mark n (getD l i 0) (drop (suc i) l) (ne-eqb (getD l i 0) mark other) e
+      ∙ ap (λ (x : ℕ). digitsOn most mark (n * 10 + x) (drop (suc i) l)) (sym value)
+      ∙ ap (λ (k : ℕ). digitsOn most mark (n * 10 + v) (drop k l)) (sym (add-one i))
+
+-- ---- modes
+
+module _ (mark : ℕ) (l : List ℕ) (i : ℕ) where
+  pub no-running : length l ≤ i → readRunning mark (drop i l) ≡ missing modes.Running
+  no-running h = rw (drop-of-length-le l h) refl
+
+  pub no-mode : length l ≤ i → readMode mark (drop i l) ≡ missing modes.Running
+  unfolding readMode
+  no-mode h = rw (drop-of-length-le l h) refl
+
+module _ (mark : ℕ) (l : List ℕ) (i : ℕ) (h : i < length l) where
+  pub other-mark : (getD l i 0 ≡ mark → ⊥) → readRunning mark (drop i l) ≡ missing modes.Running
+  other-mark e = ap (readRunning mark) (drop-cons l i 0 h) ∙ rw (ne-eqb (getD l i 0) mark e) refl
+
+  pub runs : getD l i 0 ≡ mark → readRunning mark (drop i l) ≡ found modes.Running (drop (i + 1) l)
+  runs e = ap (readRunning mark) (drop-cons l i 0 h) ∙ rw (eq-eqb (getD l i 0) mark e, add-one i) refl
+
+  mode-byte : readMode mark (drop i l) ≡ readMode mark (getD l i 0 ∷ drop (i + 1) l)
+  mode-byte = rw (add-one i) (ap (readMode mark) (drop-cons l i 0 h))
+
+  pub is-running : getD l i 0 ≡ 82 → readMode mark (drop i l) ≡ readRunning mark (drop (i + 1) l)
+  unfolding readMode
+  is-running e = mode-byte ∙ ap (λ (b : ℕ). readMode mark (b ∷ drop (i + 1) l)) e
+
+  pub is-held : getD l i 0 ≡ 72 → readMode mark (drop i l) ≡ heldFrom (readNumber most32 mark (drop (i + 1) l))
+  unfolding readMode
+  is-held e = mode-byte ∙ ap (λ (b : ℕ). readMode mark (b ∷ drop (i + 1) l)) e
+
+  pub other-mode : (getD l i 0 ≡ 82 → ⊥) → (getD l i 0 ≡ 72 → ⊥) → readMode mark (drop i l) ≡ missing modes.Running
+  unfolding readMode
+  other-mode r k = mode-byte ∙ rw (ne-eqb (getD l i 0) 82 r, ne-eqb (getD l i 0) 72 k) refl

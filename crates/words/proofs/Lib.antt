@@ -1,0 +1,5 @@
+pub mod Numbers
+pub mod Bytes
+pub mod Generators
+pub mod RoundTrip
+pub mod Writing

@@ -1,0 +1,20 @@
+-- `words::no_number` meets its contract.
+-- Assumes nothing.
+use Rattle.words.proofs.Bytes.{none-left}
+use Rattle.words.specs.Words.{Read}
+use mathlib.Core.Bool.{false}
+use Prim.Native.Nat.{ℕ}
+use mathlib.Core.List.{List}
+use mathlib.Core.Path.{refl, ap}
+use borrow.Author.Needs.{needs}
+use Rattle.words.proofs.no_number.Statement.{statement}
+use Rattle.words.proofs.no_number.Tie as tie
+use Rattle.words.proofs.no_number.Reads as reads
+use Rattle.words.proofs.no_number.Lts as lts
+
+returns : tie.Need-returns
+returns c =
+    (ap (λ (l : List ℕ). record { there = false; value = 0; rest = l }) (none-left (c .args .text .now)), (refl, refl))
+
+pub no-number-spec : {M : Type 1} → statement M
+no-number-spec = tie.close (tie.spec returns)
