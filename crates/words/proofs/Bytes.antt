@@ -3,21 +3,22 @@
 --     first-digit, no-first, no-byte              a number's first digit
 --     on-mark, on-more, on-refused, on-end        the bytes behind it
 --     no-follow, follow                           whether a byte may follow
+--     none-behind-zero, zeros-end, zero-passed    leading zeros of an argument
 -- Assumes nothing.
-use Prim.Native.Nat.{ℕ, suc, _+_, _-_, _*_, _/_, _≤_, _<_}
+use Prim.Native.Nat.{ℕ, zero, suc, _+_, _-_, _*_, _/_, _≤_, _<_}
 use mathlib.Core.Bool.{Bool, true, false, cond, _&&_}
 use mathlib.Core.List.{List, [], _∷_}
-use mathlib.Core.Path.{_≡_, refl, sym, ap, _∙_}
+use mathlib.Core.Path.{_≡_, refl, sym, ap, ap₂, _∙_}
 use native.Mathlib.Numerals.{add-one}
 use native.Mathlib.Omega.{arith}
 use lib.Dec.{ltb, leb, eqb}
-use lib.ListN.{length, drop, getD, drop-of-length-le}
+use lib.ListN.{length, drop, getD, length-drop, drop-of-length-le}
 use lib.Seq.{drop-cons}
 use borrow.Author.Tests.{leb-true, leb-false, eq-eqb, ne-eqb, le-leb, lt-leb}
 use Rattle.machine.specs.declared.Mode.{Mode}
 use Rattle.machine.specs.declared.Mode.the-variants as modes
 use Rattle.fields.specs.Fields.{digit}
-use Rattle.words.specs.Words.{Read, found, missing, most32, digitsOn, readNumber, readRunning, heldFrom, readMode}
+use Rattle.words.specs.Words.{Read, found, missing, most32, digitsOn, readNumber, unpadded, readRunning, heldFrom, readMode}
 use Rattle.words.proofs.Numbers.{on-digit}
 
 pub none-left : (l : List ℕ) → drop (length l) l ≡ []
@@ -77,13 +78,13 @@ module _ (most mark : ℕ) (l : List ℕ) (i : ℕ) (h : i < length l) where
       on-byte n
       ∙ ap
       (λ (t : Bool).
-        cond
-          t
-          (found n (drop (suc i) l))
-          (cond
-          (digit (getD l i 0) && ltb 0 n && leb (n * 10 + (getD l i 0 - 48)) most)
-          (digitsOn most mark (n * 10 + (getD l i 0 - 48)) (drop (suc i) l))
-          (missing 0)))
+      cond
+      t
+      (found n (drop (suc i) l))
+      (cond
+      (digit (getD l i 0) && ltb 0 n && leb (n * 10 + (getD l i 0 - 48)) most)
+      (digitsOn most mark (n * 10 + (getD l i 0 - 48)) (drop (suc i) l))
+      (missing 0)))
       (ne-eqb (getD l i 0) mark other)
       ∙ ap (λ (t : Bool). cond t (digitsOn most mark (n * 10 + (getD l i 0 - 48)) (drop (suc i) l)) (missing 0)) e
 
@@ -94,6 +95,42 @@ module _ (most mark : ℕ) (l : List ℕ) (i : ℕ) (h : i < length l) where
       ∙ on-digit most mark n (getD l i 0) (drop (suc i) l) (ne-eqb (getD l i 0) mark other) e
       ∙ ap (λ (x : ℕ). digitsOn most mark (n * 10 + x) (drop (suc i) l)) (sym value)
       ∙ ap (λ (k : ℕ). digitsOn most mark (n * 10 + v) (drop k l)) (sym (add-one i))
+
+-- ---- leading zeros
+
+module _ (l : List ℕ) (i : ℕ) where
+  pub none-behind-zero : (k : ℕ) → length l - i < 2 → unpadded k (drop i l) ≡ drop i l
+  none-behind-zero k h = by k (drop i l) (rw (length-drop i l) h)
+    where
+      by : (k : ℕ) (m : List ℕ) → length m < 2 → unpadded k m ≡ m
+      by zero m short = refl
+      by (suc k) [] short = refl
+      by (suc k) (b ∷ []) short = refl
+      by (suc k) (b ∷ c ∷ bs) short = absurd (omega (arith, short))
+
+  module _ (h : i + 1 < length l) where
+    two-bytes : drop i l ≡ getD l i 0 ∷ getD l (i + 1) 0 ∷ drop (suc (i + 1)) l
+    two-bytes =
+        drop-cons l i 0 (omega (arith, h))
+        ∙ ap (λ (k : ℕ). getD l i 0 ∷ drop k l) (sym (add-one i))
+        ∙ ap (λ (m : List ℕ). getD l i 0 ∷ m) (drop-cons l (i + 1) 0 h)
+
+    zeros-by : (k : ℕ) (t : Bool) → eqb (getD l i 0) 48 && digit (getD l (i + 1) 0) ≡ t
+        → unpadded (suc k) (drop i l) ≡ cond t (unpadded k (drop (i + 1) l)) (drop i l)
+    zeros-by k t e =
+        ap (unpadded (suc k)) two-bytes
+        ∙ ap (λ (u : Bool). cond u (unpadded k (getD l (i + 1) 0 ∷ drop (suc (i + 1)) l)) (getD l i 0 ∷ getD l (i + 1) 0 ∷ drop (suc (i + 1)) l)) e
+        ∙ ap₂ (λ (x y : List ℕ). cond t (unpadded k x) y) (sym (drop-cons l (i + 1) 0 h)) (sym two-bytes)
+
+    pub zeros-end : (k : ℕ) → 0 < k → eqb (getD l i 0) 48 && digit (getD l (i + 1) 0) ≡ false → unpadded k (drop i l) ≡ drop i l
+    zeros-end zero some e = absurd (omega (arith, some))
+    zeros-end (suc k) some e = zeros-by k false e
+
+    pub zero-passed : (k : ℕ) → 0 < k → eqb (getD l i 0) 48 && digit (getD l (i + 1) 0) ≡ true → unpadded k (drop i l) ≡ unpadded (k - 1) (drop (i + 1) l)
+    zero-passed zero some e = absurd (omega (arith, some))
+    zero-passed (suc k) some e =
+        let less : suc k - 1 ≡ k = omega arith in
+        zeros-by k true e ∙ ap (λ (n : ℕ). unpadded n (drop (i + 1) l)) (sym less)
 
 -- ---- modes
 

@@ -63,6 +63,7 @@ module _ (mark : ℕ) where
     where
       on : Bool → Bool → Read Mode
       on t u = cond t (readRunning mark bs) (cond u (heldFrom (readNumber most32 mark bs)) (missing modes.Running))
+
       by : (t u : Bool) → eqb b 82 ≡ t → eqb b 72 ≡ u → on t u .there ≡ true → b ∷ bs ≡ modeWord mark (on t u .value) ++ on t u .rest
       by true u r h there = ap (λ (x : ℕ). x ∷ bs) (eqb-true b 82 r) ∙ running-back bs there
       by false true r h there = ap (λ (x : ℕ). x ∷ bs) (eqb-true b 72 h) ∙ ap (λ (l : List ℕ). 72 ∷ l) (number-back most32 mark bs (omega arith) there)
@@ -75,6 +76,7 @@ module _ (mark : ℕ) where
     where
       on : Bool → Bool → Read Mode
       on t u = cond t (readRunning mark bs) (cond u (heldFrom (readNumber most32 mark bs)) (missing modes.Running))
+
       by : (t u : Bool) → on t u .there ≡ false → on t u .rest ≡ []
       by true u gone = running-lost bs gone
       by false true gone = number-lost most32 mark bs gone

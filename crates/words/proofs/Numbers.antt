@@ -159,6 +159,7 @@ on-back most mark n (b ∷ bs) small e =
   where
     on : Bool → Bool → Read ℕ
     on t u = cond t (found n bs) (cond u (digitsOn most mark (n * 10 + (b - 48)) bs) (missing 0))
+
     by : (t u : Bool) → eqb b mark ≡ t → digit b && ltb 0 n && leb (n * 10 + (b - 48)) most ≡ u
         → ((digitsOn most mark (n * 10 + (b - 48)) bs) .there ≡ true
         → digitsIn 20 (n * 10 + (b - 48)) ++ bs
@@ -183,6 +184,7 @@ number-back most mark (b ∷ bs) small e = by (digit b) refl e
   where
     on : Bool → Read ℕ
     on t = cond t (digitsOn most mark (b - 48) bs) (missing 0)
+
     by : (t : Bool) → digit b ≡ t → on t .there ≡ true → b ∷ bs ≡ numberWord mark (on t .value) ++ on t .rest
     by true is there =
         let range = digit-range b is in
@@ -200,6 +202,7 @@ on-lost most mark n (b ∷ bs) e =
   where
     on : Bool → Bool → Read ℕ
     on t u = cond t (found n bs) (cond u (digitsOn most mark (n * 10 + (b - 48)) bs) (missing 0))
+
     by : (t u : Bool) → ((digitsOn most mark (n * 10 + (b - 48)) bs) .there ≡ false → (digitsOn most mark (n * 10 + (b - 48)) bs) .rest ≡ [])
         → on t u .there ≡ false → on t u .rest ≡ []
     by true u later gone = absurd (true≢false gone)
@@ -213,6 +216,7 @@ number-lost most mark (b ∷ bs) e = by (digit b) e
   where
     on : Bool → Read ℕ
     on t = cond t (digitsOn most mark (b - 48) bs) (missing 0)
+
     by : (t : Bool) → on t .there ≡ false → on t .rest ≡ []
     by true gone = on-lost most mark (b - 48) bs gone
     by false gone = refl

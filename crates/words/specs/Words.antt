@@ -102,6 +102,17 @@ unfoldable pub readNumber : ℕ → ℕ → List ℕ → Read ℕ
 readNumber most mark [] = missing 0
 readNumber most mark (b ∷ bs) = cond (digit b) (digitsOn most mark (b - 48) bs) (missing 0)
 
+-- up to k zeros dropped, each before a digit
+abbrev pub unpadded : ℕ → List ℕ → List ℕ
+unpadded zero text = text
+unpadded (suc k) [] = []
+unpadded (suc k) (b ∷ []) = b ∷ []
+unpadded (suc k) (b ∷ c ∷ bs) = cond (eqb b 48 && digit c) (unpadded k (c ∷ bs)) (b ∷ c ∷ bs)
+
+-- A number of 64 bits as an argument of a command: it may have up to 19 leading zeros, which a channel's fields may not.
+unfoldable pub readArgument : ℕ → List ℕ → Read ℕ
+readArgument mark text = readNumber most64 mark (unpadded 19 text)
+
 abbrev pub readRunning : ℕ → List ℕ → Read Mode
 readRunning mark [] = missing modes.Running
 readRunning mark (b ∷ bs) = cond (eqb b mark) (found modes.Running bs) (missing modes.Running)

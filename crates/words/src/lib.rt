@@ -7,7 +7,7 @@ ghost use lib.ListN.{length, drop};
 ghost use Rattle.fields.specs.Fields.{digit};
 ghost use Rattle.machine.specs.declared.Mode.the-variants as modes;
 ghost use Rattle.texts.specs.Buffers.{Puts};
-ghost use Rattle.words.specs.Words.{numberWord, modeWord, generatorWord, generatorsWord, channelWord, missing, most32, heldFrom, digitsOn, readNumber, readRunning, readMode, readGenerator, readChannel, ofNumber, ofMode, ofGenerator, ofChannel};
+ghost use Rattle.words.specs.Words.{numberWord, modeWord, generatorWord, generatorsWord, channelWord, missing, most32, heldFrom, digitsOn, readNumber, unpadded, readArgument, readRunning, readMode, readGenerator, readChannel, ofNumber, ofMode, ofGenerator, ofChannel};
 use machine::Channel;
 use machine::Generator;
 use machine::Mode;
@@ -159,6 +159,36 @@ pub fn read_number(text: &[u8], at: usize, most: u64, mark: u8) -> NumberRead
     read_digits(text, at + 1, fields::digit_value(text[at]), most, mark)
 }
 
+// Where a number begins behind its leading zeros, of which up to 19 are passed over.
+fn past_zeros(text: &[u8], from: usize) -> usize
+    requires { ⌜ from ≤ length (now text) ⌝ }
+    ensures { λ r. ⌜ drop r (now (text .entry)) ≡ unpadded 19 (drop from (now (text .entry))) ⌝ }
+    ensures { λ r. ⌜ r ≤ length (now (text .entry)) ⌝ }
+{
+    let mut at = from;
+    let mut left: u32 = 19;
+    while 0 < left {
+        if text.len() - at < 2 {
+            return at;
+        }
+        if !((text[at] == b'0') & fields::is_digit(text[at + 1])) {
+            return at;
+        }
+        at += 1;
+        left -= 1;
+    }
+    at
+}
+
+// A number of 64 bits as an argument of a command, up to its mark.
+pub fn read_argument(text: &[u8], at: usize, mark: u8) -> NumberRead
+    requires { ⌜ at ≤ length (now text) ⌝ }
+    ensures { λ r. ⌜ ofNumber (now (text .entry)) r ≡ readArgument mark (drop at (now (text .entry))) ⌝ }
+    ensures { λ r. ⌜ r .end ≤ length (now (text .entry)) ⌝ }
+{
+    read_number(text, past_zeros(text, at), MOST_64, mark)
+}
+
 // A generator's mode, and where what stands behind its mark begins.
 pub struct ModeRead {
     pub there: bool,
@@ -261,6 +291,12 @@ pub struct ChannelRead {
     pub there: bool,
     pub channel: Channel,
     pub end: usize,
+}
+
+// What the word `.` stands for: the channel that the last call handed back, once an open was accepted.
+pub struct Last {
+    pub opened: bool,
+    pub channel: Channel,
 }
 
 // A channel of any field values, up to its mark.

@@ -63,8 +63,7 @@ returns c =
     let delay = ofNumber text (c .before .before .before .before .before .before .before .before .before .before .before .read-number5 .result) in
     let first = ofGenerator text (c .before .before .before .before .before .before .before .before .before .before .read-generator .result) in
     let second = ofGenerator text (c .before .before .before .before .before .before .before .before .before .read-generator2 .result) in
-    let third = ofGenerator text (c .before .before .before .before .before .before .before .before .read-generator3 .result) in
-    (
+    let third = ofGenerator text (c .before .before .before .before .before .before .before .before .read-generator3 .result) in (
       ap (channelFrom signal prn place epoch delay first second third) (c .before .before .before .before .before .before .before .read-generator4 .ensures .0)
           ∙ ap (afterThird (a .mark) signal prn place epoch delay first second) (c .before .before .before .before .before .before .before .before .read-generator3 .ensures .0)
           ∙ ap (afterSecond (a .mark) signal prn place epoch delay first) (c .before .before .before .before .before .before .before .before .before .read-generator2 .ensures .0)

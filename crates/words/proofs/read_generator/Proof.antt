@@ -39,8 +39,7 @@ returns c =
     let text = a .text .now in
     let register = ofNumber text (c .before .before .before .before .before .before .read-number .result) in
     let phase = ofNumber text (c .before .before .before .before .before .read-number2 .result) in
-    let cycles = ofNumber text (c .before .before .before .before .read-number3 .result) in
-    (
+    let cycles = ofNumber text (c .before .before .before .before .read-number3 .result) in (
       ap (generatorFrom register phase cycles) (c .before .before .before .read-mode .ensures .0)
           ∙ ap (afterCycles (a .mark) register phase) (c .before .before .before .before .read-number3 .ensures .0)
           ∙ ap (afterPhase (a .mark) register) (c .before .before .before .before .before .read-number2 .ensures .0)

@@ -1,0 +1,2 @@
+-- What the console answers to each call.
+pub mod Answers

@@ -1,0 +1,36 @@
+use borrow.Author.Needs.{needs}
+use Rattle.commands.proofs.read_gap.Statement.{statement}
+use Rattle.commands.proofs.read_gap.Tie as tie
+use Rattle.commands.proofs.read_gap.Reads as reads
+use Rattle.commands.proofs.read_gap.Lts as lts
+use Rattle.words.proofs.read_argument.Reads as read-argument-reads
+
+-- src/lib.rt:172:9
+read-argument-requires : tie.Need-read-argument-requires
+read-argument-requires c κs = search needs
+
+-- src/lib.rt:173:9
+read-argument-requires-2 : tie.Need-read-argument-requires-2
+read-argument-requires-2 c κs = search needs
+
+-- src/lib.rt:174:9
+read-argument-requires-3 : tie.Need-read-argument-requires-3
+read-argument-requires-3 c κs = search needs
+
+-- src/lib.rt:176:9
+returns : tie.Need-returns
+returns c = ?
+
+-- src/lib.rt:168:1
+returns-2 : tie.Need-returns-2
+returns-2 c = ?
+
+pub read-gap-spec : {M : Type 1} → statement M
+read-gap-spec =
+    tie.close
+    (tie.spec
+    read-argument-requires
+    read-argument-requires-2
+    read-argument-requires-3
+    returns
+    returns-2)

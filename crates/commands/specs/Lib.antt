@@ -1,0 +1,2 @@
+-- What a line of the console asks for.
+pub mod Commands
