@@ -6,8 +6,9 @@ use Prim.Native.Nat.{ℕ}
 use mathlib.Core.List.{List, [], _∷_, _++_, append-assoc, append-nil}
 use mathlib.Core.Path.{_≡_, refl, sym, ap, ap₂, _∙_}
 use Rattle.lines.specs.Lines.{lineReply}
-use Rattle.streams.specs.Stream.{next, rest, replies, lastReply, answers, kept}
-use Rattle.streams.proofs.Streams.{other-next, other-said, replies-append, rest-append, kept-said, kept-next, kept-twice}
+use Rattle.streams.specs.Stream.{next, said, rest, replies, lastReply, answers, kept}
+use Rattle.streams.proofs.Streams.{other-next, other-said, kept-said, kept-next, kept-twice}
+use Rattle.texts.proofs.Saying.{replies-append, rest-append}
 
 -- what is still to be said, where a line has begun with some bytes
 abbrev saying : List ℕ → List ℕ → List ℕ
@@ -85,7 +86,7 @@ fed-on line (chunk ∷ chunks) =
     ap₂ (λ (x y : List ℕ). x ++ fedWith y chunks) (kept-replies line chunk) (kept-rest line chunk)
     ∙ ap (λ (l : List ℕ). replies line chunk ++ l) (fed-on (rest line chunk) chunks)
     ∙ sym (append-assoc (replies line chunk) (replies (rest line chunk) (whole chunks)) (lastReply (rest (rest line chunk) (whole chunks))))
-    ∙ ap₂ (λ (x y : List ℕ). x ++ lastReply y) (sym (replies-append line chunk (whole chunks))) (sym (rest-append line chunk (whole chunks)))
+    ∙ ap₂ (λ (x y : List ℕ). x ++ lastReply y) (sym (replies-append next said line chunk (whole chunks))) (sym (rest-append next line chunk (whole chunks)))
 
 pub any-chunks : (chunks : List (List ℕ)) → fedWith [] chunks ≡ answers (whole chunks)
 any-chunks chunks = fed-on [] chunks

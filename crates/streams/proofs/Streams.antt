@@ -1,8 +1,6 @@
 -- The line that has no newline yet, and the replies of a stream.
---     full, one-more, held-again                             the bytes that a state holds
 --     newline-next, newline-said, other-next, other-said     what one byte does
 --     kept-reply, kept-said, kept-next, kept-twice           56 bytes of a line are enough
---     replies-append, rest-append                            the replies of two inputs, one after the other
 --     FedSoFar, fed-none, fed-more, fed-some                 the loop over a chunk
 --     none-held, some-held                                   the end of the input
 -- Assumes nothing.
@@ -22,28 +20,9 @@ use Rattle.texts.specs.Buffers.{Begins}
 use Rattle.lines.specs.Lines.{lineReply}
 use Rattle.streams.specs.Stream.{next, said, rest, replies, lastReply, kept, held}
 use Rattle.streams.specs.declared.Pending.{Pending}
+use Rattle.texts.proofs.Saying.{kept-more, replies-more, rest-more}
 use Rattle.texts.proofs.Written.{begins-none, begins-more, begins-fits}
 use Rattle.lines.proofs.LineReplies.{long-refused}
-
--- ---- the bytes kept
-
--- 56 are kept, and one more is not
-pub full : (l : List ℕ) (n b : ℕ) → length l ≡ 56 → 56 ≤ n → take n l ≡ kept (take n l ++ (b ∷ []))
-full l n b long h =
-    let all : take n l ≡ l = take-all n l (omega arith) in
-    rw (all, take-append-le 56 l (b ∷ []) (omega arith)) (sym (take-all 56 l (omega arith)))
-
--- fewer are, and one more is kept
-pub one-more : (l : List ℕ) (n b : ℕ) → length l ≡ 56 → n < 56 → take (n + 1) (set l n b) ≡ kept (take n l ++ (b ∷ []))
-one-more l n b long h =
-    let short : length (take n l ++ (b ∷ [])) ≤ 56 = rw (length-append (take n l) (b ∷ []), length-take-le n l (omega arith)) (omega arith) in
-    rw (add-one n, take-suc-set l n b (omega arith)) (sym (take-all 56 (take n l ++ (b ∷ [])) short))
-
--- as many bytes as a state holds are those that it holds
-pub held-again : (n : ℕ) (l : List ℕ) → take (length (take n l)) l ≡ take n l
-held-again zero l = refl
-held-again (suc n) [] = refl
-held-again (suc n) (x ∷ l) = ap (λ (m : List ℕ). x ∷ m) (held-again n l)
 
 -- ---- one byte
 
@@ -76,11 +55,6 @@ kept-reply line = by (leb (length line) 56) refl
 pub kept-said : (line : List ℕ) (b : ℕ) → said (kept line) b ≡ said line b
 kept-said line b = ap (λ (r : List ℕ). cond (eqb b 10) r []) (kept-reply line)
 
-kept-more : (n : ℕ) (x y : List ℕ) → take n (take n x ++ y) ≡ take n (x ++ y)
-kept-more zero x y = refl
-kept-more (suc n) [] y = refl
-kept-more (suc n) (a ∷ x) y = ap (λ (l : List ℕ). a ∷ l) (kept-more n x y)
-
 pub kept-twice : (line : List ℕ) → kept (kept line) ≡ kept line
 kept-twice line = take-take 56 56 line (omega arith)
 
@@ -90,29 +64,6 @@ kept-next line b = by (eqb b 10)
     by : (t : Bool) → kept (cond t [] (kept line ++ (b ∷ []))) ≡ kept (cond t [] (line ++ (b ∷ [])))
     by true = refl
     by false = kept-more 56 line (b ∷ [])
-
--- ---- many bytes
-
-pub replies-append : (line xs ys : List ℕ) → replies line (xs ++ ys) ≡ replies line xs ++ replies (rest line xs) ys
-replies-append line [] ys = refl
-replies-append line (x ∷ xs) ys =
-    ap (λ (l : List ℕ). said line x ++ l) (replies-append (next line x) xs ys)
-    ∙ sym (append-assoc (said line x) (replies (next line x) xs) (replies (rest (next line x) xs) ys))
-
-pub rest-append : (line xs ys : List ℕ) → rest line (xs ++ ys) ≡ rest (rest line xs) ys
-rest-append line [] ys = refl
-rest-append line (x ∷ xs) ys = rest-append (next line x) xs ys
-
-module _ (line input : List ℕ) (i : ℕ) (h : i < length input) where
-  replies-more : replies line (take (i + 1) input) ≡ replies line (take i input) ++ said (rest line (take i input)) (getD input i 0)
-  replies-more =
-      let b = getD input i 0 in
-      rw (add-one i, take-suc input i 0 h)
-      (replies-append line (take i input) (b ∷ [])
-      ∙ ap (λ (l : List ℕ). replies line (take i input) ++ l) (append-nil (said (rest line (take i input)) b)))
-
-  rest-more : rest line (take (i + 1) input) ≡ next (rest line (take i input)) (getD input i 0)
-  rest-more = rw (add-one i, take-suc input i 0 h) (rest-append line (take i input) (getD input i 0 ∷ []))
 
 -- ---- the loop: i bytes of the input are fed, and n bytes of the buffer written
 
@@ -145,7 +96,7 @@ module _ (input old : List ℕ) (start : Pending) where
       = begins-more (replies (held start) (take i input)) (said (held state) b) old new after n m (f .begins) end wrote
       in
       let whole : replies (held start) (take i input) ++ said (held state) b ≡ replies (held start) (take (i + 1) input)
-      = ap (λ (l : List ℕ). replies (held start) (take i input) ++ l) said-is ∙ sym (replies-more (held start) input i h)
+      = ap (λ (l : List ℕ). replies (held start) (take i input) ++ l) said-is ∙ sym (replies-more next said (held start) input i h)
       in
       let as-long : length after ≡ length old = same ∙ f .same in
       record {
@@ -157,7 +108,7 @@ module _ (input old : List ℕ) (start : Pending) where
             next-held
             ∙ ap (λ (l : List ℕ). kept (next l b)) (f .held-is)
             ∙ kept-next line b
-            ∙ ap kept (sym (rest-more (held start) input i h));
+            ∙ ap kept (sym (rest-more next (held start) input i h));
       }
 
 -- a buffer of 128 bytes or more takes in at least one byte of input

@@ -6,6 +6,7 @@ use mathlib.Core.List.{List, [], _∷_, _++_}
 use lib.Dec.{eqb}
 use lib.ListN.{take}
 use Rattle.texts.specs.Texts.{refusedLine}
+use Rattle.texts.specs.Saying.{restOf, repliesOf}
 use Rattle.lines.specs.Lines.{lineReply}
 use Rattle.streams.specs.declared.Pending.{Pending}
 
@@ -19,12 +20,10 @@ said line b = cond (eqb b 10) (lineReply line) []
 
 -- the same of any number of bytes more
 abbrev pub rest : List ℕ → List ℕ → List ℕ
-rest line [] = line
-rest line (b ∷ bs) = rest (next line b) bs
+rest line bs = restOf next line bs
 
 abbrev pub replies : List ℕ → List ℕ → List ℕ
-replies line [] = []
-replies line (b ∷ bs) = said line b ++ replies (next line b) bs
+replies line bs = repliesOf next said line bs
 
 -- what the end of the input has it say: "9: a line of another form, a last one lacking its newline included"
 abbrev pub lastReply : List ℕ → List ℕ

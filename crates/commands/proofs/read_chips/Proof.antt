@@ -1,33 +1,45 @@
+-- `commands::read_chips` meets its contract.
+-- Assumes nothing.
+use Rattle.commands.proofs.Arguments.{four-told}
+use Rattle.commands.specs.Commands.{readChips}
+use Rattle.commands.specs.declared.Command.the-variants as commands
+use Rattle.words.specs.Words.{ofNumber}
+use mathlib.Core.Bool.{true, false}
 use borrow.Author.Needs.{needs}
 use Rattle.commands.proofs.read_chips.Statement.{statement}
 use Rattle.commands.proofs.read_chips.Tie as tie
-use Rattle.commands.proofs.read_chips.Reads as reads
-use Rattle.commands.proofs.read_chips.Lts as lts
-use Rattle.words.proofs.read_argument.Reads as read-argument-reads
 
--- src/lib.rt:133:9
 read-argument-requires : tie.Need-read-argument-requires
 read-argument-requires c κs = search needs
 
--- src/lib.rt:134:9
 read-argument-requires-2 : tie.Need-read-argument-requires-2
 read-argument-requires-2 c κs = search needs
 
--- src/lib.rt:135:9
 read-argument-requires-3 : tie.Need-read-argument-requires-3
 read-argument-requires-3 c κs = search needs
 
--- src/lib.rt:136:9
 read-argument-requires-4 : tie.Need-read-argument-requires-4
 read-argument-requires-4 c κs = search needs
 
--- src/lib.rt:138:9
 returns : tie.Need-returns
-returns c = ?
+unfolding readChips
+returns c =
+    let text = c .before .before .before .before .before .before .before .args .line .now in
+    let first = c .before .before .before .before .before .read-argument in
+    let second = c .before .before .before .before .read-argument2 in
+    let third = c .before .before .before .read-argument3 in
+    let fourth = c .before .before .read-argument4 in
+    four-told commands.Chips (ofNumber text (first .result)) _ (ofNumber text (second .result)) (ofNumber text (third .result)) (ofNumber text (fourth .result)) true (c .if1 .taken) (first .ensures .0) (second .ensures .0) (third .ensures .0) (fourth .ensures .0)
 
--- src/lib.rt:129:1
 returns-2 : tie.Need-returns-2
-returns-2 c = ?
+unfolding readChips
+returns-2 c =
+    let text = c .before .before .before .before .before .before .before .args .line .now in
+    let first = c .before .before .before .before .before .read-argument in
+    let second = c .before .before .before .before .read-argument2 in
+    let third = c .before .before .before .read-argument3 in
+    let fourth = c .before .before .read-argument4 in
+    four-told commands.Chips (ofNumber text (first .result)) _ (ofNumber text (second .result)) (ofNumber text (third .result)) (ofNumber text (fourth .result)) false (c .if1 .left) (first .ensures .0) (second .ensures .0) (third .ensures .0) (fourth .ensures .0)
 
 pub read-chips-spec : {M : Type 1} → statement M
 read-chips-spec =

@@ -1,25 +1,35 @@
+-- `commands::read_open` meets its contract.
+-- Assumes nothing.
+use Rattle.commands.proofs.Arguments.{two-told}
+use Rattle.commands.specs.Commands.{readOpen}
+use Rattle.commands.specs.declared.Command.the-variants as commands
+use Rattle.words.specs.Words.{ofNumber}
+use mathlib.Core.Bool.{true, false}
 use borrow.Author.Needs.{needs}
 use Rattle.commands.proofs.read_open.Statement.{statement}
 use Rattle.commands.proofs.read_open.Tie as tie
-use Rattle.commands.proofs.read_open.Reads as reads
-use Rattle.commands.proofs.read_open.Lts as lts
-use Rattle.words.proofs.read_argument.Reads as read-argument-reads
 
--- src/lib.rt:81:9
 read-argument-requires : tie.Need-read-argument-requires
 read-argument-requires c κs = search needs
 
--- src/lib.rt:82:9
 read-argument-requires-2 : tie.Need-read-argument-requires-2
 read-argument-requires-2 c κs = search needs
 
--- src/lib.rt:84:9
 returns : tie.Need-returns
-returns c = ?
+unfolding readOpen
+returns c =
+    let text = c .before .before .before .before .before .args .line .now in
+    let first = c .before .before .before .read-argument in
+    let second = c .before .before .read-argument2 in
+    two-told commands.Open (ofNumber text (first .result)) _ (ofNumber text (second .result)) true (c .if1 .taken) (first .ensures .0) (second .ensures .0)
 
--- src/lib.rt:77:1
 returns-2 : tie.Need-returns-2
-returns-2 c = ?
+unfolding readOpen
+returns-2 c =
+    let text = c .before .before .before .before .before .args .line .now in
+    let first = c .before .before .before .read-argument in
+    let second = c .before .before .read-argument2 in
+    two-told commands.Open (ofNumber text (first .result)) _ (ofNumber text (second .result)) false (c .if1 .left) (first .ensures .0) (second .ensures .0)
 
 pub read-open-spec : {M : Type 1} → statement M
 read-open-spec =

@@ -1,25 +1,35 @@
+-- `commands::read_reading` meets its contract.
+-- Assumes nothing.
+use Rattle.commands.proofs.Arguments.{two-told}
+use Rattle.commands.specs.Commands.{readReading}
+use Rattle.commands.specs.declared.Command.the-variants as commands
+use Rattle.words.specs.Words.{ofNumber}
+use mathlib.Core.Bool.{true, false}
 use borrow.Author.Needs.{needs}
 use Rattle.commands.proofs.read_reading.Statement.{statement}
 use Rattle.commands.proofs.read_reading.Tie as tie
-use Rattle.commands.proofs.read_reading.Reads as reads
-use Rattle.commands.proofs.read_reading.Lts as lts
-use Rattle.words.proofs.read_argument.Reads as read-argument-reads
 
--- src/lib.rt:147:9
 read-argument-requires : tie.Need-read-argument-requires
 read-argument-requires c κs = search needs
 
--- src/lib.rt:148:9
 read-argument-requires-2 : tie.Need-read-argument-requires-2
 read-argument-requires-2 c κs = search needs
 
--- src/lib.rt:150:9
 returns : tie.Need-returns
-returns c = ?
+unfolding readReading
+returns c =
+    let text = c .before .before .before .before .before .args .line .now in
+    let first = c .before .before .before .read-argument in
+    let second = c .before .before .read-argument2 in
+    two-told commands.Reading (ofNumber text (first .result)) _ (ofNumber text (second .result)) true (c .if1 .taken) (first .ensures .0) (second .ensures .0)
 
--- src/lib.rt:143:1
 returns-2 : tie.Need-returns-2
-returns-2 c = ?
+unfolding readReading
+returns-2 c =
+    let text = c .before .before .before .before .before .args .line .now in
+    let first = c .before .before .before .read-argument in
+    let second = c .before .before .read-argument2 in
+    two-told commands.Reading (ofNumber text (first .result)) _ (ofNumber text (second .result)) false (c .if1 .left) (first .ensures .0) (second .ensures .0)
 
 pub read-reading-spec : {M : Type 1} → statement M
 read-reading-spec =

@@ -7,7 +7,7 @@ use native.Mathlib.Omega.{arith}
 use lib.Seq.{length-take-le}
 use lib.ListN.{length, take, drop, length-take}
 use borrow.Author.Needs.{needs}
-use Rattle.streams.proofs.Streams.{held-again}
+use Rattle.texts.proofs.Saying.{held-again}
 use Rattle.texts.proofs.Written.{begins-fits}
 use Rattle.streams.specs.Stream.{held}
 use Rattle.lines.specs.Lines.{lineReply}

@@ -1,0 +1,3 @@
+pub mod Beginnings
+pub mod Named
+pub mod Arguments

@@ -1,0 +1,2 @@
+-- What is said in a session at the console.
+pub mod Sessions
