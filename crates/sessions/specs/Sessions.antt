@@ -9,6 +9,7 @@ use Rattle.machine.specs.declared.Generator.{Generator}
 use Rattle.machine.specs.declared.Mode.the-variants as modes
 use Rattle.engine.specs.Replies.{openReply, seekReply, stepReply}
 use Rattle.places.specs.Places.{readingReply, placeOfReply, gapReply}
+use Rattle.texts.specs.Saying.{restOf, repliesOf}
 use Rattle.words.specs.declared.Last.{Last}
 use Rattle.commands.specs.Commands.{commandOf}
 use Rattle.commands.specs.declared.Command.{Command}
@@ -102,12 +103,10 @@ said help t b = cond (eqb b 10) (answerOf help (asked t)) []
 
 -- the same of any number of bytes more
 abbrev pub rest : Talk → List ℕ → Talk
-rest t [] = t
-rest t (b ∷ bs) = rest (next t b) bs
+rest t bs = restOf next t bs
 
 abbrev pub replies : List ℕ → Talk → List ℕ → List ℕ
-replies help t [] = []
-replies help t (b ∷ bs) = said help t b ++ replies help (next t b) bs
+replies help t bs = repliesOf next (said help) t bs
 
 -- what the end of the input has it say: a last line that lacks its newline is answered as if it had one
 abbrev pub lastAnswer : List ℕ → Talk → List ℕ

@@ -6,7 +6,7 @@ ghost use lib.ListN.{length, take};
 ghost use Rattle.engine.specs.Replies.{written};
 ghost use Rattle.texts.specs.Buffers.{Begins};
 ghost use Rattle.commands.specs.Commands.{commandOf};
-ghost use Rattle.sessions.specs.Sessions.{answerOf, lastOf, Talk, talk, nobody, asked, next, said, rest, replies, lastAnswer, kept};
+ghost use Rattle.sessions.specs.Sessions.{answerOf, lastOf, Talk, talk, nothing as Sessions·nothing, nobody, asked, next, said, rest, replies, lastAnswer, kept};
 use answers::Answered;
 use answers::ROOM;
 use commands::Command;
@@ -100,7 +100,9 @@ pub struct State {
     pub last: Last,
 }
 
-fn nothing() -> Generator {
+fn nothing() -> Generator
+    ensures { λ r. ⌜ r ≡ Sessions·nothing ⌝ }
+{
     Generator {
         register: 0,
         phase: 0,

@@ -6,7 +6,8 @@
 --     puts-more, puts-length, puts-room    the same of Puts, and the room left
 --     byte-more, chip-more         one byte behind them, and one chip as text
 --     Begins                       a list stands at the buffer's start: none, more bytes written behind it, one byte, and the length
---     Room                         the same, with a bound of its length
+--     part-written                 a list stands at the start of a part of the buffer
+--     Room                         the same as Begins, with a bound of its length
 -- Assumes nothing.
 use Prim.Native.Nat.{ℕ, _+_, _-_, _≤_, _<_}
 use mathlib.Core.List.{List, [], _∷_, _++_, map, map-append, append-assoc}
@@ -17,6 +18,7 @@ use native.Mathlib.Omega.{arith}
 use lib.ListN.{length, take, drop, getD, set, take-append-drop, length-append, length-drop, length-map}
 use lib.Seq.{set-split, take-at, drop-at, drop-drop, length-take-le, take-suc}
 use Rattle.engine.specs.Replies.{written}
+use Rattle.runs.proofs.ChipsSoFar.{put-back}
 use Rattle.texts.specs.Texts.{chipDigit}
 use Rattle.texts.specs.Buffers.{Puts, Begins}
 
@@ -113,6 +115,14 @@ begins-fits x old new n b same =
 
 pub begins-within : (x old new : List ℕ) (n : ℕ) → Begins x old new n → n ≤ length new
 begins-within x old new n b = rw (b .1, length-append x (drop n old)) (omega (arith, b .0))
+
+-- a list that stands at the start of the part of a buffer from n on
+pub part-written : (x old new : List ℕ) (n k : ℕ) → Begins x (take (length old - n) (drop n old)) new k
+    → take n old ++ (new ++ drop (length old - n) (drop n old)) ≡ written n x old
+part-written x old new n k b =
+    let part = take (length old - n) (drop n old) in
+    ap (λ (l : List ℕ). take n old ++ (l ++ drop (length old - n) (drop n old))) (b .1 ∙ ap (λ (m : ℕ). x ++ drop m part) (b .0))
+    ∙ put-back x (length x) n old
 
 -- the same, with a bound of the list's length
 pub record Room (x old new : List ℕ) (n most : ℕ) : Type 0 where

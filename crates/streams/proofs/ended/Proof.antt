@@ -2,16 +2,14 @@
 -- Assumes nothing.
 use Prim.Native.Nat.{ℕ, _+_, _-_, _≤_}
 use mathlib.Core.Path.{_≡_, sym, ap, _∙_}
-use mathlib.Core.List.{List, _++_}
 use native.Mathlib.Omega.{arith}
 use lib.Seq.{length-take-le}
 use lib.ListN.{length, take, drop, length-take}
 use borrow.Author.Needs.{needs}
 use Rattle.texts.proofs.Saying.{held-again}
-use Rattle.texts.proofs.Written.{begins-fits}
+use Rattle.texts.proofs.Written.{begins-as, begins-fits, part-written}
 use Rattle.streams.specs.Stream.{held}
 use Rattle.lines.specs.Lines.{lineReply}
-use Rattle.runs.proofs.ChipsSoFar.{put-back}
 use Rattle.streams.proofs.ended.Statement.{statement}
 use Rattle.streams.proofs.ended.Tie as tie
 
@@ -63,13 +61,8 @@ returns c =
     let k = c .before .before .before .before .before .held-length in
     let w = c .before .before .reply in
     let line : take (k .result) (s .bytes) ≡ held s = ap (λ (m : ℕ). take m (s .bytes)) (k .ensures) ∙ held-again (s .len) (s .bytes) in
-    let said = lineReply (held s) in
-    let long : w .result ≡ length said = w .ensures .0 ∙ ap (λ (l : List ℕ). length (lineReply l)) line in
-    let part = take (length old - n) (drop n old) in
-    let new : w .last .1 .0 ≡ said ++ drop (length said) part
-    = w .ensures .1 ∙ ap (λ (l : List ℕ). lineReply l ++ drop (w .result) part) line ∙ ap (λ (m : ℕ). said ++ drop m part) long
-    in
-    (ap (λ (m : ℕ). n + m) long, ap (λ (x : List ℕ). take n old ++ (x ++ drop (length old - n) (drop n old))) new ∙ put-back said (length said) n old)
+    let begins = begins-as (lineReply (take (k .result) (s .bytes))) (lineReply (held s)) (take (length old - n) (drop n old)) (w .last .1 .0) (w .result) (ap lineReply line) (w .ensures) in
+    (ap (λ (m : ℕ). n + m) (begins .0), part-written (lineReply (held s)) old (w .last .1 .0) n (w .result) begins)
 
 pub ended-spec : {M : Type 1} → statement M
 ended-spec =
