@@ -1,3 +1,4 @@
 pub mod Beginnings
 pub mod Named
 pub mod Arguments
+pub mod LongLines

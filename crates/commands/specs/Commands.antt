@@ -102,23 +102,42 @@ readGap text =
 
 -- ---- a line
 
+-- the words of the commands, each with what stands behind it: a space, or the newline of `help`
+abbrev pub openWord : List ℕ
+openWord = 111 ∷ 112 ∷ 101 ∷ 110 ∷ 32 ∷ []
+
+abbrev pub seekWord : List ℕ
+seekWord = 115 ∷ 101 ∷ 101 ∷ 107 ∷ 32 ∷ []
+
+abbrev pub stepWord : List ℕ
+stepWord = 115 ∷ 116 ∷ 101 ∷ 112 ∷ 32 ∷ []
+
+abbrev pub windowWord : List ℕ
+windowWord = 119 ∷ 105 ∷ 110 ∷ 100 ∷ 111 ∷ 119 ∷ 32 ∷ []
+
+abbrev pub chipsWord : List ℕ
+chipsWord = 99 ∷ 104 ∷ 105 ∷ 112 ∷ 115 ∷ 32 ∷ []
+
+abbrev pub readingWord : List ℕ
+readingWord = 114 ∷ 101 ∷ 97 ∷ 100 ∷ 105 ∷ 110 ∷ 103 ∷ 32 ∷ []
+
+abbrev pub placeOfWord : List ℕ
+placeOfWord = 112 ∷ 108 ∷ 97 ∷ 99 ∷ 101 ∷ 111 ∷ 102 ∷ 32 ∷ []
+
+abbrev pub gapWord : List ℕ
+gapWord = 103 ∷ 97 ∷ 112 ∷ 32 ∷ []
+
+abbrev pub helpWord : List ℕ
+helpWord = 104 ∷ 101 ∷ 108 ∷ 112 ∷ 10 ∷ []
+
 unfoldable pub commandOf : Last → List ℕ → Command
 commandOf last line =
-    -- open
-    cond (begins (111 ∷ 112 ∷ 101 ∷ 110 ∷ 32 ∷ []) line) (readOpen (drop 5 line))
-    -- seek
-    (cond (begins (115 ∷ 101 ∷ 101 ∷ 107 ∷ 32 ∷ []) line) (readSeek last (drop 5 line))
-    -- step
-    (cond (begins (115 ∷ 116 ∷ 101 ∷ 112 ∷ 32 ∷ []) line) (readStep last (drop 5 line))
-    -- window
-    (cond (begins (119 ∷ 105 ∷ 110 ∷ 100 ∷ 111 ∷ 119 ∷ 32 ∷ []) line) (readWindow last (drop 7 line))
-    -- chips
-    (cond (begins (99 ∷ 104 ∷ 105 ∷ 112 ∷ 115 ∷ 32 ∷ []) line) (readChips (drop 6 line))
-    -- reading
-    (cond (begins (114 ∷ 101 ∷ 97 ∷ 100 ∷ 105 ∷ 110 ∷ 103 ∷ 32 ∷ []) line) (readReading (drop 8 line))
-    -- placeof
-    (cond (begins (112 ∷ 108 ∷ 97 ∷ 99 ∷ 101 ∷ 111 ∷ 102 ∷ 32 ∷ []) line) (readPlaceOf (drop 8 line))
-    -- gap
-    (cond (begins (103 ∷ 97 ∷ 112 ∷ 32 ∷ []) line) (readGap (drop 4 line))
-    -- help
-    (cond (begins (104 ∷ 101 ∷ 108 ∷ 112 ∷ 10 ∷ []) line) commands.Help commands.Error))))))))
+    cond (begins openWord line) (readOpen (drop 5 line))
+    (cond (begins seekWord line) (readSeek last (drop 5 line))
+    (cond (begins stepWord line) (readStep last (drop 5 line))
+    (cond (begins windowWord line) (readWindow last (drop 7 line))
+    (cond (begins chipsWord line) (readChips (drop 6 line))
+    (cond (begins readingWord line) (readReading (drop 8 line))
+    (cond (begins placeOfWord line) (readPlaceOf (drop 8 line))
+    (cond (begins gapWord line) (readGap (drop 4 line))
+    (cond (begins helpWord line) commands.Help commands.Error))))))))

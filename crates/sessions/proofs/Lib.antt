@@ -1,1 +1,2 @@
 pub mod Talks
+pub mod EverySession

@@ -2,7 +2,7 @@
 --     Told                                                   an answer, and what `.` stands for after it
 --     newline-next, newline-said, other-next, other-said     what one byte does
 --     FedSoFar, fed-none, fed-more, fed-some                 the loop over a chunk
---     none-held, some-held                                   the end of the input
+--     some-left, none-held, some-held                        the end of the input
 -- Assumes nothing.
 use Prim.Native.Nat.{ℕ, zero, suc, _+_, _≤_, _<_}
 use mathlib.Core.List.{List, [], _∷_, _++_}
@@ -105,6 +105,9 @@ fed-some help t input (suc used) n size long full room some = omega arith
 
 -- ---- the end of the input
 
+pub some-left : (help : List ℕ) (t : Talk) → (length (t .line) ≡ 0 → ⊥) → lastAnswer help t ≡ answerOf help (asked t)
+some-left help t n = rw (ne-eqb (length (t .line)) 0 n)
+
 module _ (help line : List ℕ) (state : State) (fits : state .len ≤ length line) where
   held-length : length (take (state .len) line) ≡ state .len
   held-length = length-take-le (state .len) line fits
@@ -113,4 +116,4 @@ module _ (help line : List ℕ) (state : State) (fits : state .len ≤ length li
   none-held e = rw (eq-eqb (length (take (state .len) line)) 0 (held-length ∙ e))
 
   pub some-held : (state .len ≡ 0 → ⊥) → lastAnswer help (talk line state) ≡ answerOf help (asked (talk line state))
-  some-held n = rw (ne-eqb (length (take (state .len) line)) 0 (λ e. n (sym held-length ∙ e)))
+  some-held n = some-left help (talk line state) (λ e. n (sym held-length ∙ e))

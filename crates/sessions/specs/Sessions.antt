@@ -79,6 +79,15 @@ answersTo help last [] = []
 answersTo help last (line ∷ lines) =
     answerOf help (commandIn last line) ++ answersTo help (lastOf last (commandIn last line)) lines
 
+-- The lines of an input, each without its newline, where a line has begun with some bytes. A last line that lacks its newline is one, if it has a byte.
+abbrev pub linesFrom : List ℕ → List ℕ → List (List ℕ)
+linesFrom line [] = cond (eqb (length line) 0) [] (line ∷ [])
+linesFrom line (b ∷ bs) = cond (eqb b 10) (line ∷ linesFrom [] bs) (linesFrom (line ++ (b ∷ [])) bs)
+
+-- the whole output for a whole input
+abbrev pub output : List ℕ → List ℕ → List ℕ
+output help input = answersTo help nobody (linesFrom [] input)
+
 -- ---- the same byte by byte
 
 -- Where a session stands: the bytes kept of the line that has no newline yet, and what `.` stands for.
@@ -108,7 +117,7 @@ rest t bs = restOf next t bs
 abbrev pub replies : List ℕ → Talk → List ℕ → List ℕ
 replies help t bs = repliesOf next (said help) t bs
 
--- what the end of the input has it say: a last line that lacks its newline is answered as if it had one
+-- what the end of the input has it say
 abbrev pub lastAnswer : List ℕ → Talk → List ℕ
 lastAnswer help t = cond (eqb (length (t .line)) 0) [] (answerOf help (asked t))
 

@@ -8,18 +8,13 @@ use mathlib.Core.Path.{_≡_, refl, sym, ap, ap₂, _∙_}
 use Rattle.lines.specs.Lines.{lineReply}
 use Rattle.streams.specs.Stream.{next, said, rest, replies, lastReply, answers, kept}
 use Rattle.streams.proofs.Streams.{other-next, other-said, kept-said, kept-next, kept-twice}
-use Rattle.texts.proofs.Saying.{replies-append, rest-append}
+use Rattle.texts.proofs.Saying.{Plain, replies-append, rest-append}
 
 -- what is still to be said, where a line has begun with some bytes
 abbrev saying : List ℕ → List ℕ → List ℕ
 saying line input = replies line input ++ lastReply (rest line input)
 
 -- ---- line after line
-
--- no byte is a newline
-abbrev pub Plain : List ℕ → Type 0
-Plain [] = Unit {0}
-Plain (b ∷ bs) = (b ≡ 10 → ⊥) × Plain bs
 
 abbrev pub AllPlain : List (List ℕ) → Type 0
 AllPlain [] = Unit {0}

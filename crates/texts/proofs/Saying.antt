@@ -1,4 +1,5 @@
 -- A program that takes bytes one after the other.
+--     Plain                                    bytes without a newline
 --     full, one-more, held-again, kept-more    a line of which the first k bytes are kept
 --     replies-append, rest-append              what is said to two inputs, one after the other
 --     replies-more, rest-more                  to one byte more
@@ -11,6 +12,11 @@ use native.Mathlib.Omega.{arith}
 use lib.ListN.{length, take, getD, set, length-append}
 use lib.Seq.{take-all, take-suc-set, take-append-le, length-take-le, take-suc}
 use Rattle.texts.specs.Saying.{restOf, repliesOf}
+
+-- no byte is a newline
+abbrev pub Plain : List ℕ → Type 0
+Plain [] = Unit {0}
+Plain (b ∷ bs) = (b ≡ 10 → ⊥) × Plain bs
 
 -- ---- the bytes kept
 
