@@ -1,6 +1,7 @@
-# `make run` does the main job, `make test` proves and tests everything. `make lib` writes the archive for C, `make codes` the line program.
+# `make run` does the main job, `make test` proves and tests everything. `make lib` writes the archive for C, `make codes` the line program, `make console`
+# the console.
 
-.PHONY: run codes lib test
+.PHONY: run codes console lib test
 
 archive := target/staticlib/libgps_chips.a
 header := include/gps_chips.h
@@ -10,6 +11,7 @@ LINE ?= 2 1 0 12
 export LINE
 
 need = @command -v $(1) >/dev/null || { echo 'make: $(2) is not on the PATH' >&2; exit 1; }
+need-rt = $(call need,rt,the Rattle toolchain (rt))
 
 # The line program, fed with a line.
 run: codes
@@ -17,16 +19,17 @@ run: codes
 	@printf '%s\n' "$$LINE" | target/bin/codes
 	@echo 'For more: type lines of SIGNAL PRN PLACE COUNT into target/bin/codes, or target/bin/codes <FILE >REPLIES'
 
-# Proves the line program and all below it, builds it, and tests how it reads and writes, which no proof covers.
-codes:
-	$(call need,rt,the Rattle toolchain (rt))
+# A program: proves it and all below it, builds it, and tests how it reads and writes, which no proof covers.
+codes console:
+	$(need-rt)
 	@mkdir -p target
-	@echo 'proving codes and what it rests on, some three minutes the first time (target/codes.log)'
-	@{ rt check codes && tests/codes/run.sh; } >target/codes.log 2>&1 || { cat target/codes.log >&2; exit 1; }
+	@echo 'proving $@ and what it rests on, some minutes the first time (target/$@.log)'
+	@{ rt check $@ && tests/$@/run.sh; } >target/$@.log 2>&1 || { cat target/$@.log >&2; exit 1; }
+	@echo 'program: target/bin/$@'
 
 # Proves the call for C and all below it, and writes it as an archive.
 lib:
-	$(call need,rt,the Rattle toolchain (rt))
+	$(need-rt)
 	@mkdir -p target
 	@echo 'proving gps_chips and what it rests on, some two minutes the first time (target/lib.log)'
 	@rt staticlib gps_chips >target/lib.log 2>&1 || { cat target/lib.log >&2; exit 1; }
@@ -34,10 +37,9 @@ lib:
 	@echo 'header:  $(header)'
 	@echo 'link:    cc prog.c -Iinclude $(archive)'
 
-# From nothing: the C side, the standards' tables; then every proof, every wrong answer that has to be refused, every program.
+# From nothing: the C side, the documents and the standards' tables; every proof, every wrong answer that has to be refused, every program.
 # The last line is rt's verdict, "N passed, 0 failed".
-test: lib
+test:
+	$(need-rt)
 	$(call need,$(firstword $(CC)),a C compiler ($(CC)))
-	@CC='$(CC)' tests/host/run.sh $(archive)
-	@tests/standards/run.sh
-	@rt ci
+	@CC='$(CC)' tests/run.sh
