@@ -31,10 +31,13 @@ rt ci >"$verdict" 2>&1 &
 rt=$!
 set +m
 
-tests/standards/run.sh
-tests/console/documents.sh
-make --no-print-directory -C "$copy/here" lib
-"$copy/here/tests/host/run.sh"
+(
+    cd "$copy/here"
+    tests/standards/run.sh
+    tests/console/documents.sh
+    make --no-print-directory lib
+    tests/host/run.sh
+)
 
 status=0
 tail -n +1 -f --pid="$rt" "$verdict"
