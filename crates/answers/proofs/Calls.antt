@@ -6,11 +6,11 @@
 -- Assumes nothing.
 use Prim.Native.Nat.{ℕ, _+_, _≤_, _<_}
 use mathlib.Core.Bool.{Bool, true, false, cond}
-use mathlib.Core.List.{List, [], _∷_, _++_, append-nil}
+use mathlib.Core.List.{List, [], _++_, append-nil}
 use mathlib.Core.Path.{_≡_, refl, sym, ap, subst, _∙_}
 use native.Mathlib.Omega.{arith}
 use lib.Dec.{leb, eqb}
-use lib.ListN.{length, replicate, length-replicate}
+use lib.ListN.{length, length-replicate}
 use borrow.Author.Tests.{leb-true, le-leb, ne-eqb}
 use Rattle.machine.specs.Machine.{inRange, advance, chips}
 use Rattle.machine.specs.declared.Channel.{Channel}
@@ -21,7 +21,7 @@ use Rattle.texts.specs.Buffers.{Begins}
 use Rattle.texts.proofs.Written.{begins-as}
 use Rattle.words.specs.Words.{numberWord, channelWord}
 use Rattle.words.specs.declared.Last.{Last}
-use Rattle.answers.specs.Answers.{ok, chipsWord, windowLine, answeredLine, chipsLine, mostLength, buffer, windowAnswer, chipsAnswered, handedBack, windowLast}
+use Rattle.answers.specs.Answers.{ok, chipsWord, windowLine, answeredLine, chipsLine, mostLength, buffer, windowAnswered, chipsAnswered, handedBack, windowLast}
 use Rattle.answers.specs.declared.Answered.{Answered}
 
 -- the answer was written by the reply p that the call gave, which is the reply q that its promise sets out
@@ -80,7 +80,7 @@ module _ (ch : Channel) (count at : ℕ) where
   alike-line p q a = λ j. cond (eqb (a .refused j) 0) (ok (channelWord 32 (a .channel j) ++ chipsWord (a .chips j))) (refusedLine (a .refused j))
 
   pub window-of : (bytes : ℕ) (b : List ℕ) (last : Last) → bytes ≤ mostLength → bytes ≡ length b
-      → (windowLine (windowReply ch count b at) ≡ windowAnswer ch count bytes at)
+      → (windowLine (windowReply ch count b at) ≡ windowAnswered ch count bytes at)
       × (handedBack last (windowReply ch count b at .channel) ≡ windowLast last ch count bytes at)
   window-of bytes b last few long =
       let same = alike b (buffer bytes) (sym long ∙ sym (length-replicate bytes 0)) in

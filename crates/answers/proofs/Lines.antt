@@ -9,7 +9,7 @@ use mathlib.Core.List.{List, [], _∷_, _++_, map}
 use mathlib.Core.Path.{_≡_, refl, sym, ap, _∙_}
 use native.Mathlib.Nat.{zero-add}
 use native.Mathlib.Omega.{arith}
-use lib.ListN.{length, drop, set, length-append, length-map}
+use lib.ListN.{length, drop, set, length-map}
 use lib.IntN.{ℤ, pos, negsuc, natAbs}
 use Rattle.texts.specs.Texts.{chipDigit}
 use Rattle.texts.specs.Buffers.{Puts, Begins}

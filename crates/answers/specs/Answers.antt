@@ -8,9 +8,8 @@ use lib.Dec.{leb, eqb}
 use lib.ListN.{replicate}
 use lib.IntN.{ℤ, pos, negsuc}
 use Rattle.machine.specs.declared.Channel.{Channel}
-use Rattle.engine.specs.Replies.{OpenReply, channel, refusal, Reply, openReply, seekReply, stepReply, windowReply}
+use Rattle.engine.specs.Replies.{OpenReply, channel, refusal, Reply, windowReply}
 use Rattle.gps_chips.specs.Chips.{chipsAnswer, byTheMachine}
-use Rattle.places.specs.Places.{readingReply, placeOfReply, gapReply}
 use Rattle.places.specs.Places as places
 use Rattle.texts.specs.Texts.{refusedLine, chipDigit}
 use Rattle.words.specs.Words.{numberWord, channelWord}
@@ -96,8 +95,8 @@ mostLength = 131072
 abbrev pub buffer : ℕ → List ℕ
 buffer bytes = replicate bytes 0
 
-abbrev pub windowAnswer : Channel → ℕ → ℕ → ℕ → List ℕ
-windowAnswer ch count bytes at = cond (leb bytes mostLength) (windowLine (windowReply ch count (buffer bytes) at)) errorLine
+abbrev pub windowAnswered : Channel → ℕ → ℕ → ℕ → List ℕ
+windowAnswered ch count bytes at = cond (leb bytes mostLength) (windowLine (windowReply ch count (buffer bytes) at)) errorLine
 
 abbrev pub chipsAnswered : ℕ → ℕ → ℕ → ℕ → List ℕ
 chipsAnswered signal prn place bytes = cond (leb bytes mostLength) (chipsLine signal prn place bytes) errorLine

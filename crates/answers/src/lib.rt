@@ -8,7 +8,7 @@ ghost use Rattle.engine.specs.Replies.{openReply, seekReply, stepReply, windowR
 ghost use Rattle.places.specs.Places.{readingReply, placeOfReply, gapReply};
 ghost use Rattle.words.specs.Words.{numberWord, channelWord};
 ghost use Rattle.texts.specs.Buffers.{Puts, Begins};
-ghost use Rattle.answers.specs.Answers.{ok, chipsWord, signedWord, answeredLine, openLine, seekLine, stepLine, windowLine, chipsLine, readingLine, placeOfLine, gapLine, errorLine, windowAnswer, chipsAnswered, handedBack, openedLast, windowLast};
+ghost use Rattle.answers.specs.Answers.{ok, chipsWord, signedWord, answeredLine, openLine, seekLine, stepLine, windowLine, chipsLine, readingLine, placeOfLine, gapLine, errorLine, windowAnswered, chipsAnswered, handedBack, openedLast, windowLast};
 use engine::Opened;
 use engine::Sought;
 use engine::Stepped;
@@ -20,7 +20,7 @@ use places::Read;
 use words::Last;
 
 // The longest buffer that a line may ask for.
-pub const MOST_LENGTH: u64 = 131_072;
+pub const MOST_LENGTH: usize = 131_072;
 
 // Every answer fits in so many bytes: the longest has a channel and 65,536 chips.
 pub const ROOM: usize = 66_048;
@@ -300,10 +300,10 @@ pub fn window(
 ) -> Answered
     requires { ⌜ 131072 ≤ length (now work) ⌝ }
     requires { ⌜ 66048 ≤ length (now out) ⌝ }
-    ensures { λ r. ⌜ Begins (windowAnswer ch count bytes at) (now (out .entry)) (now (out .exit)) (r .end) ⌝ }
+    ensures { λ r. ⌜ Begins (windowAnswered ch count bytes at) (now (out .entry)) (now (out .exit)) (r .end) ⌝ }
     ensures { λ r. ⌜ r .last ≡ windowLast last ch count bytes at ⌝ }
 {
-    if MOST_LENGTH < bytes {
+    if (MOST_LENGTH as u64) < bytes {
         return error(last, out);
     }
     let n = bytes as usize;
@@ -325,7 +325,7 @@ pub fn chips(
     ensures { λ r. ⌜ Begins (chipsAnswered signal prn place bytes) (now (out .entry)) (now (out .exit)) (r .end) ⌝ }
     ensures { λ r. ⌜ r .last ≡ last ⌝ }
 {
-    if MOST_LENGTH < bytes {
+    if (MOST_LENGTH as u64) < bytes {
         return error(last, out);
     }
     let n = bytes as usize;

@@ -3,9 +3,11 @@
 ghost use Prim.Native.Nat.{_≤_};
 ghost use mathlib.Core.Path.{_≡_};
 ghost use lib.ListN.{length};
+use answers::MOST_LENGTH;
 use libc::STDERR_FILENO;
 use libc::STDIN_FILENO;
 use libc::STDOUT_FILENO;
+use sessions::KEPT;
 use sessions::State;
 
 // What `help` is answered.
@@ -129,8 +131,8 @@ fn finish(line: &mut [u8], state: State, work: &mut [u8], out: &mut [u8])
 
 // A proved loop has to end, and nothing says that an input does. So it counts its turns down, from a number that no run uses up.
 fn answer_all() {
-    let mut line = [0u8; 1024];
-    let mut work = [0u8; 131072];
+    let mut line = [0u8; KEPT];
+    let mut work = [0u8; MOST_LENGTH];
     let mut out = [0u8; 131072];
     let mut state = sessions::begun();
     let mut turns = u64::MAX;
@@ -169,7 +171,7 @@ fn main() {
     if libc::isatty(STDIN_FILENO) == 1 {
         io::write_all(
             STDERR_FILENO,
-            b"A command a line, as open 2 1 and then step . ; help lists them, Ctrl-D ends.\n",
+            b"One command a line: open 2 1, say, and then step . (help lists them, Ctrl-D ends)\n",
         );
     }
     answer_all();

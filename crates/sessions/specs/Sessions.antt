@@ -14,7 +14,7 @@ use Rattle.words.specs.declared.Last.{Last}
 use Rattle.commands.specs.Commands.{commandOf}
 use Rattle.commands.specs.declared.Command.{Command}
 use Rattle.commands.specs.declared.Command.the-variants as commands
-use Rattle.answers.specs.Answers.{openLine, seekLine, stepLine, windowAnswer, chipsAnswered, readingLine, placeOfLine, gapLine, errorLine, openedLast, handedBack, windowLast}
+use Rattle.answers.specs.Answers.{openLine, seekLine, stepLine, windowAnswered, chipsAnswered, readingLine, placeOfLine, gapLine, errorLine, openedLast, handedBack, windowLast}
 use Rattle.sessions.specs.declared.State.{State}
 
 -- ---- a command
@@ -24,7 +24,7 @@ unfoldable pub answerOf : List ℕ → Command → List ℕ
 answerOf help (commands.Open signal prn) = openLine (openReply signal prn)
 answerOf help (commands.Seek ch place) = seekLine (seekReply ch place)
 answerOf help (commands.Step ch) = stepLine (stepReply ch)
-answerOf help (commands.Window ch count bytes at) = windowAnswer ch count bytes at
+answerOf help (commands.Window ch count bytes at) = windowAnswered ch count bytes at
 answerOf help (commands.Chips signal prn place bytes) = chipsAnswered signal prn place bytes
 answerOf help (commands.Reading signal place) = readingLine (readingReply signal place)
 answerOf help (commands.PlaceOf signal epoch chip) = placeOfLine (placeOfReply signal epoch chip)

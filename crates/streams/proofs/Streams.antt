@@ -6,13 +6,12 @@
 -- Assumes nothing.
 use Prim.Native.Nat.{ℕ, zero, suc, _+_, _≤_, _<_}
 use mathlib.Core.Bool.{Bool, true, false, cond}
-use mathlib.Core.List.{List, [], _∷_, _++_, append-assoc, append-nil}
+use mathlib.Core.List.{List, [], _∷_, _++_}
 use mathlib.Core.Path.{_≡_, refl, sym, ap, subst, _∙_}
-use native.Mathlib.Numerals.{add-one}
 use native.Mathlib.Omega.{arith}
 use lib.Dec.{leb, eqb}
-use lib.ListN.{length, take, getD, set, length-append, length-take}
-use lib.Seq.{take-all, take-take, take-suc-set, take-append-le, length-take-le, take-suc}
+use lib.ListN.{length, take, getD, length-take}
+use lib.Seq.{take-all, take-take, length-take-le}
 use borrow.Author.Tests.{leb-true, leb-false, eq-eqb, ne-eqb}
 use Rattle.engine.specs.Replies.{written}
 use Rattle.texts.specs.Texts.{refusedLine}

@@ -15,10 +15,9 @@ use lib.Dec.{ltb, leb, eqb}
 use lib.ListN.{length, drop, getD, length-drop, drop-of-length-le}
 use lib.Seq.{drop-cons}
 use borrow.Author.Tests.{leb-true, leb-false, eq-eqb, ne-eqb, le-leb, lt-leb}
-use Rattle.machine.specs.declared.Mode.{Mode}
 use Rattle.machine.specs.declared.Mode.the-variants as modes
 use Rattle.fields.specs.Fields.{digit}
-use Rattle.words.specs.Words.{Read, found, missing, most32, digitsOn, readNumber, unpadded, readRunning, heldFrom, readMode}
+use Rattle.words.specs.Words.{found, missing, most32, digitsOn, readNumber, unpadded, readRunning, heldFrom, readMode}
 use Rattle.words.proofs.Numbers.{on-digit}
 
 pub none-left : (l : List ℕ) → drop (length l) l ≡ []

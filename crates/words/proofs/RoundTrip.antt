@@ -2,15 +2,15 @@
 --     there    what stands in a text as a channel's word is read as that channel, for every channel whose fields hold their numbers
 --     back     what is read as a channel stands in the text as that channel's word
 -- Assumes nothing.
-use Prim.Native.Nat.{ℕ, _≤_, _<_}
+use Prim.Native.Nat.{ℕ, _≤_}
 use mathlib.Core.Bool.{Bool, true, false}
-use mathlib.Core.List.{List, [], _∷_, _++_, append-assoc}
+use mathlib.Core.List.{List, [], _++_, append-assoc}
 use mathlib.Core.Path.{_≡_, refl, sym, ap, _∙_}
 use native.Mathlib.Omega.{arith}
 use Rattle.machine.specs.declared.Generator.{Generator}
 use Rattle.machine.specs.declared.Channel.{Channel}
 use Rattle.fields.specs.Fields.{digit}
-use Rattle.words.specs.Words.{Read, found, most32, most64, numberWord, generatorWord, generatorsWord, channelWord, readNumber, readMode, readGenerator, channelFrom, readChannel, ChannelFits}
+use Rattle.words.specs.Words.{Read, found, most32, most64, numberWord, generatorWord, generatorsWord, channelWord, readNumber, readGenerator, channelFrom, readChannel, ChannelFits}
 use Rattle.words.proofs.Numbers.{number-there, number-back, number-lost}
 use Rattle.words.proofs.Generators.{was-there, none-behind, four, number-read, generator-there, generator-back, generator-lost, no-generator, none-behind-it}
 

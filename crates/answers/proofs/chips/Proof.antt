@@ -2,21 +2,17 @@
 -- Assumes nothing.
 use mathlib.Core.Path.{_≡_, refl, sym}
 use mathlib.Core.Bool.{false}
+use native.Mathlib.Omega.{arith}
 use lib.Seq.{length-take-le}
 use lib.ListN.{length, take}
 use lib.Dec.{leb}
-use native.Mathlib.Omega.{arith}
 use borrow.Author.Tests.{lt-leb}
+use borrow.Author.Needs.{needs}
 use Rattle.texts.proofs.Written.{begins-as}
 use Rattle.answers.specs.Answers.{errorLine, mostLength, chipsLine, chipsAnswered}
 use Rattle.answers.proofs.Calls.{chips-of}
-use borrow.Author.Needs.{needs}
 use Rattle.answers.proofs.chips.Statement.{statement}
 use Rattle.answers.proofs.chips.Tie as tie
-use Rattle.answers.proofs.chips.Reads as reads
-use Rattle.answers.proofs.chips.Lts as lts
-use Rattle.answers.proofs.chips_on.Reads as chips-on-reads
-use Rattle.answers.proofs.error.Reads as error-reads
 
 error-requires : tie.Need-error-requires
 error-requires c κs = search needs

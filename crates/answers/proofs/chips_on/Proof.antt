@@ -2,19 +2,15 @@
 -- Assumes nothing.
 use mathlib.Core.Path.{_≡_}
 use mathlib.Core.List.{[]}
-use lib.ListN.{length}
 use native.Mathlib.Omega.{arith}
+use lib.ListN.{length}
+use borrow.Author.Needs.{needs}
 use Rattle.texts.proofs.Written.{begins-as}
 use Rattle.gps_chips.proofs.Answers.{admitted}
 use Rattle.answers.specs.Answers.{answeredLine, chipsLine}
 use Rattle.answers.proofs.Calls.{chips-refused, chips-filled}
-use borrow.Author.Needs.{needs}
 use Rattle.answers.proofs.chips_on.Statement.{statement}
 use Rattle.answers.proofs.chips_on.Tie as tie
-use Rattle.answers.proofs.chips_on.Reads as reads
-use Rattle.answers.proofs.chips_on.Lts as lts
-use Rattle.answers.proofs.answer_chips.Reads as answer-chips-reads
-use Rattle.gps_chips.proofs.gps_chips.Reads as gps-chips-reads
 
 gps-chips-requires : tie.Need-gps-chips-requires
 gps-chips-requires c κs = search needs

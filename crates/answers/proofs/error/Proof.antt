@@ -2,13 +2,10 @@
 -- Assumes nothing.
 use mathlib.Core.Path.{refl}
 use mathlib.Core.List.{[], _∷_}
-use Rattle.answers.proofs.Lines.{puts-begins}
 use borrow.Author.Needs.{needs}
+use Rattle.answers.proofs.Lines.{puts-begins}
 use Rattle.answers.proofs.error.Statement.{statement}
 use Rattle.answers.proofs.error.Tie as tie
-use Rattle.answers.proofs.error.Reads as reads
-use Rattle.answers.proofs.error.Lts as lts
-use Rattle.texts.proofs.put.Reads as put-reads
 
 slice-aggregate-put : tie.Need-slice-aggregate-put
 slice-aggregate-put c = search needs

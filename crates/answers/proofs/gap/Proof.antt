@@ -1,24 +1,17 @@
 -- `answers::gap` meets its contract.
 -- Assumes nothing.
+use mathlib.Core.Path.{sym, ap, _∙_}
 use lib.IntN.{ℤ}
 use mir.ValLaws.{toZ-ofZ}
 use mir.Val.{SFits, toZ, ofZ}
 use mir.Syntax.{w64}
--- `answers::gap` meets its contract.
--- Assumes nothing.
-use mathlib.Core.Path.{sym, ap, _∙_}
+use borrow.Author.Needs.{needs}
 use Rattle.texts.proofs.Written.{begins-as}
 use Rattle.texts.specs.Texts.{refusedLine}
 use Rattle.places.specs.Places.{gapReply, ofParted}
 use Rattle.answers.specs.Answers.{ok, signedWord, gapLine}
-use borrow.Author.Needs.{needs}
 use Rattle.answers.proofs.gap.Statement.{statement}
 use Rattle.answers.proofs.gap.Tie as tie
-use Rattle.answers.proofs.gap.Reads as reads
-use Rattle.answers.proofs.gap.Lts as lts
-use Rattle.answers.proofs.ok_signed.Reads as ok-signed-reads
-use Rattle.places.proofs.gap.Reads as gap-reads
-use Rattle.texts.proofs.refused.Reads as refused-reads
 
 gap-requires : tie.Need-gap-requires
 gap-requires c κs = search needs

@@ -1,15 +1,11 @@
 -- `answers::ok_channel` meets its contract.
 -- Assumes nothing.
 use mathlib.Core.List.{[], _∷_}
+use borrow.Author.Needs.{needs}
 use Rattle.words.specs.Words.{channelWord}
 use Rattle.answers.proofs.Lines.{two-words}
-use borrow.Author.Needs.{needs}
 use Rattle.answers.proofs.ok_channel.Statement.{statement}
 use Rattle.answers.proofs.ok_channel.Tie as tie
-use Rattle.answers.proofs.ok_channel.Reads as reads
-use Rattle.answers.proofs.ok_channel.Lts as lts
-use Rattle.texts.proofs.put.Reads as put-reads
-use Rattle.words.proofs.put_channel.Reads as put-channel-reads
 
 slice-aggregate-put : tie.Need-slice-aggregate-put
 slice-aggregate-put c = search needs

@@ -2,19 +2,14 @@
 -- Assumes nothing.
 use mathlib.Core.List.{[], _∷_}
 use native.Mathlib.Omega.{arith}
+use borrow.Author.Needs.{needs}
 use Rattle.words.proofs.Writing.{channel-short}
 use Rattle.words.specs.Words.{channelWord}
 use Rattle.texts.proofs.Written.{puts-room}
 use Rattle.answers.specs.Answers.{chipsWord}
 use Rattle.answers.proofs.Lines.{three-words}
-use borrow.Author.Needs.{needs}
 use Rattle.answers.proofs.ok_channel_chips.Statement.{statement}
 use Rattle.answers.proofs.ok_channel_chips.Tie as tie
-use Rattle.answers.proofs.ok_channel_chips.Reads as reads
-use Rattle.answers.proofs.ok_channel_chips.Lts as lts
-use Rattle.answers.proofs.put_chips.Reads as put-chips-reads
-use Rattle.texts.proofs.put.Reads as put-reads
-use Rattle.words.proofs.put_channel.Reads as put-channel-reads
 
 slice-aggregate-put : tie.Need-slice-aggregate-put
 slice-aggregate-put c = search needs

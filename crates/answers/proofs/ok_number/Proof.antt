@@ -1,15 +1,11 @@
 -- `answers::ok_number` meets its contract.
 -- Assumes nothing.
 use mathlib.Core.List.{[], _∷_}
+use borrow.Author.Needs.{needs}
 use Rattle.words.specs.Words.{numberWord}
 use Rattle.answers.proofs.Lines.{two-words}
-use borrow.Author.Needs.{needs}
 use Rattle.answers.proofs.ok_number.Statement.{statement}
 use Rattle.answers.proofs.ok_number.Tie as tie
-use Rattle.answers.proofs.ok_number.Reads as reads
-use Rattle.answers.proofs.ok_number.Lts as lts
-use Rattle.texts.proofs.put.Reads as put-reads
-use Rattle.words.proofs.put_number.Reads as put-number-reads
 
 slice-aggregate-put : tie.Need-slice-aggregate-put
 slice-aggregate-put c = search needs

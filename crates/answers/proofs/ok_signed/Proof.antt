@@ -1,25 +1,18 @@
 -- `answers::ok_signed` meets its contract.
 -- Assumes nothing.
-use Prim.Native.Nat.{ℕ}
 use mathlib.Core.Path.{ap, _∙_}
+use mathlib.Core.List.{[], _∷_}
 use lib.IntN.{natAbs}
 use mir.Syntax.{w64}
 use mir.ValLaws.{toZ-ofZ}
-use mathlib.Core.List.{List, [], _∷_}
+use borrow.Author.Needs.{needs}
 use Rattle.words.specs.Words.{numberWord}
 use Rattle.texts.proofs.Written.{begins-as}
 use Rattle.places.proofs.Sizes.{negative, other}
 use Rattle.answers.specs.Answers.{ok, signedWord}
 use Rattle.answers.proofs.Lines.{two-words, negative-word, other-word}
-use borrow.Author.Needs.{needs}
 use Rattle.answers.proofs.ok_signed.Statement.{statement}
 use Rattle.answers.proofs.ok_signed.Tie as tie
-use Rattle.answers.proofs.ok_signed.Reads as reads
-use Rattle.answers.proofs.ok_signed.Lts as lts
-use Rattle.answers.proofs.ok_number.Reads as ok-number-reads
-use Rattle.places.proofs.size.Reads as size-reads
-use Rattle.texts.proofs.put.Reads as put-reads
-use Rattle.words.proofs.put_number.Reads as put-number-reads
 
 size-requires : tie.Need-size-requires
 size-requires c κs = search needs

@@ -1,19 +1,14 @@
 -- `answers::open` meets its contract.
 -- Assumes nothing.
 use mathlib.Core.Path.{_≡_, sym, ap, _∙_}
+use borrow.Author.Needs.{needs}
 use Rattle.words.specs.Words.{channelWord}
 use Rattle.texts.proofs.Written.{begins-as}
 use Rattle.texts.specs.Texts.{refusedLine}
 use Rattle.engine.specs.Replies.{channel, refusal, openReply, ofOpened}
 use Rattle.answers.specs.Answers.{ok, openLine, openedLast}
-use borrow.Author.Needs.{needs}
 use Rattle.answers.proofs.open.Statement.{statement}
 use Rattle.answers.proofs.open.Tie as tie
-use Rattle.answers.proofs.open.Reads as reads
-use Rattle.answers.proofs.open.Lts as lts
-use Rattle.answers.proofs.ok_channel.Reads as ok-channel-reads
-use Rattle.engine.proofs.open.Reads as open-reads
-use Rattle.texts.proofs.refused.Reads as refused-reads
 
 open-requires : tie.Need-open-requires
 open-requires c κs = search needs

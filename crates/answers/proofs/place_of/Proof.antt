@@ -1,19 +1,14 @@
 -- `answers::place_of` meets its contract.
 -- Assumes nothing.
 use mathlib.Core.Path.{sym, ap, _∙_}
+use borrow.Author.Needs.{needs}
 use Rattle.words.specs.Words.{numberWord}
 use Rattle.texts.proofs.Written.{begins-as}
 use Rattle.texts.specs.Texts.{refusedLine}
 use Rattle.places.specs.Places.{placeOfReply, ofPlaced}
 use Rattle.answers.specs.Answers.{ok, placeOfLine}
-use borrow.Author.Needs.{needs}
 use Rattle.answers.proofs.place_of.Statement.{statement}
 use Rattle.answers.proofs.place_of.Tie as tie
-use Rattle.answers.proofs.place_of.Reads as reads
-use Rattle.answers.proofs.place_of.Lts as lts
-use Rattle.answers.proofs.ok_number.Reads as ok-number-reads
-use Rattle.places.proofs.place_of.Reads as place-of-reads
-use Rattle.texts.proofs.refused.Reads as refused-reads
 
 place-of-requires : tie.Need-place-of-requires
 place-of-requires c κs = search needs

@@ -1,22 +1,17 @@
 -- `answers::put_chips` meets its contract.
 -- Assumes nothing.
-use Prim.Native.Nat.{ℕ, _+_, _≤_}
+use Prim.Native.Nat.{ℕ, _+_}
 use mathlib.Core.Path.{_≡_, sym, subst}
-use mathlib.Core.List.{List, [], _∷_, map}
-use lib.ListN.{length, set}
+use mathlib.Core.List.{List, map}
 use native.Mathlib.Omega.{arith}
+use lib.ListN.{length, set}
+use borrow.Author.Needs.{needs}
 use Rattle.texts.proofs.Written.{puts-room}
 use Rattle.texts.specs.Buffers.{Puts}
 use Rattle.texts.specs.Texts.{chipDigit}
-use Rattle.answers.specs.Answers.{chipsWord}
 use Rattle.answers.proofs.Lines.{chips-none, chips-some, chips-long, puts-byte}
-use borrow.Author.Needs.{needs}
 use Rattle.answers.proofs.put_chips.Statement.{statement}
 use Rattle.answers.proofs.put_chips.Tie as tie
-use Rattle.answers.proofs.put_chips.Reads as reads
-use Rattle.answers.proofs.put_chips.Lts as lts
-use Rattle.texts.proofs.put.Reads as put-reads
-use Rattle.texts.proofs.put_chips.Reads as put-chips-reads
 
 slice-aggregate-put : tie.Need-slice-aggregate-put
 slice-aggregate-put c = search needs

@@ -1,20 +1,15 @@
 -- `answers::reading` meets its contract.
 -- Assumes nothing.
-use mathlib.Core.Path.{_≡_, sym, ap, _∙_}
+use mathlib.Core.Path.{sym, ap, _∙_}
 use mathlib.Core.List.{_++_}
+use borrow.Author.Needs.{needs}
 use Rattle.words.specs.Words.{numberWord}
 use Rattle.texts.proofs.Written.{begins-as}
 use Rattle.texts.specs.Texts.{refusedLine}
-use Rattle.places.specs.Places.{Reply, answer, refusal, readingReply, ofRead}
+use Rattle.places.specs.Places.{readingReply, ofRead}
 use Rattle.answers.specs.Answers.{ok, readingLine}
-use borrow.Author.Needs.{needs}
 use Rattle.answers.proofs.reading.Statement.{statement}
 use Rattle.answers.proofs.reading.Tie as tie
-use Rattle.answers.proofs.reading.Reads as reads
-use Rattle.answers.proofs.reading.Lts as lts
-use Rattle.answers.proofs.ok_numbers.Reads as ok-numbers-reads
-use Rattle.places.proofs.reading.Reads as reading-reads
-use Rattle.texts.proofs.refused.Reads as refused-reads
 
 reading-requires : tie.Need-reading-requires
 reading-requires c κs = search needs

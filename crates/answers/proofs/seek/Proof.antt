@@ -2,20 +2,14 @@
 -- Assumes nothing.
 use mathlib.Core.Path.{refl, sym, ap, _∙_}
 use mathlib.Core.List.{_++_}
+use borrow.Author.Needs.{needs}
 use Rattle.words.specs.Words.{numberWord, channelWord}
 use Rattle.texts.specs.Texts.{refusedLine}
 use Rattle.engine.specs.Replies.{soughtWith, refusedWith, seekReply, ofSought}
 use Rattle.answers.specs.Answers.{ok, seekLine}
 use Rattle.answers.proofs.Calls.{handed-on, one-number}
-use borrow.Author.Needs.{needs}
 use Rattle.answers.proofs.seek.Statement.{statement}
 use Rattle.answers.proofs.seek.Tie as tie
-use Rattle.answers.proofs.seek.Reads as reads
-use Rattle.answers.proofs.seek.Lts as lts
-use Rattle.answers.proofs.handed.Reads as handed-reads
-use Rattle.answers.proofs.ok_number_channel.Reads as ok-number-channel-reads
-use Rattle.engine.proofs.seek.Reads as seek-reads
-use Rattle.texts.proofs.refused.Reads as refused-reads
 
 seek-requires : tie.Need-seek-requires
 seek-requires c κs = search needs

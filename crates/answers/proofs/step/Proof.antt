@@ -2,20 +2,14 @@
 -- Assumes nothing.
 use mathlib.Core.Path.{refl, sym, ap, _∙_}
 use mathlib.Core.List.{_++_}
+use borrow.Author.Needs.{needs}
 use Rattle.words.specs.Words.{numberWord, channelWord}
 use Rattle.texts.specs.Texts.{refusedLine}
 use Rattle.engine.specs.Replies.{steppedWith, refusedWith, stepReply, ofStepped}
 use Rattle.answers.specs.Answers.{ok, stepLine}
 use Rattle.answers.proofs.Calls.{handed-on, one-number}
-use borrow.Author.Needs.{needs}
 use Rattle.answers.proofs.step.Statement.{statement}
 use Rattle.answers.proofs.step.Tie as tie
-use Rattle.answers.proofs.step.Reads as reads
-use Rattle.answers.proofs.step.Lts as lts
-use Rattle.answers.proofs.handed.Reads as handed-reads
-use Rattle.answers.proofs.ok_number_channel.Reads as ok-number-channel-reads
-use Rattle.engine.proofs.step.Reads as step-reads
-use Rattle.texts.proofs.refused.Reads as refused-reads
 
 step-requires : tie.Need-step-requires
 step-requires c κs = search needs

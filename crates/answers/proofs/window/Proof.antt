@@ -1,23 +1,19 @@
 -- `answers::window` meets its contract.
 -- Assumes nothing.
-use mathlib.Core.Path.{_≡_, sym, ap, _∙_}
-use mathlib.Core.Bool.{Bool, false, cond}
+use mathlib.Core.Path.{_≡_, sym, _∙_}
+use mathlib.Core.Bool.{false}
+use native.Mathlib.Omega.{arith}
 use lib.Seq.{length-take-le}
 use lib.ListN.{take}
 use lib.Dec.{leb}
-use native.Mathlib.Omega.{arith}
 use borrow.Author.Tests.{lt-leb}
+use borrow.Author.Needs.{needs}
 use Rattle.texts.proofs.Written.{begins-as}
 use Rattle.engine.specs.Replies.{windowReply}
-use Rattle.answers.specs.Answers.{errorLine, mostLength, windowLine, windowAnswer, windowLast, handedBack}
+use Rattle.answers.specs.Answers.{errorLine, mostLength, windowLine, windowAnswered}
 use Rattle.answers.proofs.Calls.{window-of}
-use borrow.Author.Needs.{needs}
 use Rattle.answers.proofs.window.Statement.{statement}
 use Rattle.answers.proofs.window.Tie as tie
-use Rattle.answers.proofs.window.Reads as reads
-use Rattle.answers.proofs.window.Lts as lts
-use Rattle.answers.proofs.error.Reads as error-reads
-use Rattle.answers.proofs.window_on.Reads as window-on-reads
 
 error-requires : tie.Need-error-requires
 error-requires c κs = search needs
@@ -30,7 +26,7 @@ returns c =
     let a = c .before .before .before .before .before .before .before .args in
     let e = c .before .before .error in
     let long : leb (a .bytes) mostLength ≡ false = lt-leb (a .bytes) mostLength (c .before .before .before .before .if1 .taken) in
-    (begins-as errorLine (windowAnswer (a .ch) (a .count) (a .bytes) (a .at)) (a .out .now) (e .last .1 .0) (e .result .end) (rw long) (e .ensures .0), e .ensures .1 ∙ rw long)
+    (begins-as errorLine (windowAnswered (a .ch) (a .count) (a .bytes) (a .at)) (a .out .now) (e .last .1 .0) (e .result .end) (rw long) (e .ensures .0), e .ensures .1 ∙ rw long)
 
 slice-relend-prefix-window-on : tie.Need-slice-relend-prefix-window-on
 slice-relend-prefix-window-on c = search needs
@@ -53,7 +49,7 @@ returns-2 c =
     let w = c .before .before .before .before .window-on in
     let b = take (a .bytes) (a .work .now) in
     let of = window-of (a .ch) (a .count) (a .at) (a .bytes) b (a .last) (c .before .before .before .before .before .before .before .if1 .left) (sym (length-take-le (a .bytes) (a .work .now) (omega (arith, c .before .before .before .before .before .before .before .if1 .left, c .before .before .before .before .before .before .before .before .before .before .pre .0)))) in
-    (begins-as (windowLine (windowReply (a .ch) (a .count) b (a .at))) (windowAnswer (a .ch) (a .count) (a .bytes) (a .at)) (a .out .now) (w .last .1 .1 .1 .1 .1 .0) (w .result .end) (of .0) (w .ensures .0), w .ensures .1 ∙ of .1)
+    (begins-as (windowLine (windowReply (a .ch) (a .count) b (a .at))) (windowAnswered (a .ch) (a .count) (a .bytes) (a .at)) (a .out .now) (w .last .1 .1 .1 .1 .1 .0) (w .result .end) (of .0) (w .ensures .0), w .ensures .1 ∙ of .1)
 
 pub window-spec : {M : Type 1} → statement M
 window-spec =

@@ -3,22 +3,16 @@
 use Prim.Native.Nat.{ℕ, _+_, _-_}
 use mathlib.Core.Path.{_≡_, refl, sym, ap, _∙_}
 use mathlib.Core.List.{_++_}
-use lib.ListN.{take, drop, length-take}
 use native.Mathlib.Omega.{arith}
+use lib.ListN.{take, drop, length-take}
+use borrow.Author.Needs.{needs}
 use Rattle.words.specs.Words.{channelWord}
 use Rattle.texts.specs.Texts.{refusedLine}
 use Rattle.engine.specs.Replies.{Reply, writtenWith, unwrittenWith, windowReply, ofWindowed}
 use Rattle.answers.specs.Answers.{ok, chipsWord, windowLine}
 use Rattle.answers.proofs.Calls.{handed-on, window-fits}
-use borrow.Author.Needs.{needs}
 use Rattle.answers.proofs.window_on.Statement.{statement}
 use Rattle.answers.proofs.window_on.Tie as tie
-use Rattle.answers.proofs.window_on.Reads as reads
-use Rattle.answers.proofs.window_on.Lts as lts
-use Rattle.answers.proofs.handed.Reads as handed-reads
-use Rattle.answers.proofs.ok_channel_chips.Reads as ok-channel-chips-reads
-use Rattle.engine.proofs.window.Reads as window-reads
-use Rattle.texts.proofs.refused.Reads as refused-reads
 
 window-requires : tie.Need-window-requires
 window-requires c κs = search needs

@@ -1,11 +1,11 @@
 -- `commands::begins` meets its contract.
 -- Assumes nothing.
-use Rattle.commands.proofs.Beginnings.{whole-word, text-ended, other-byte, same-byte}
-use Rattle.commands.specs.Commands.{begins}
-use lib.ListN.{length, drop}
-use mathlib.Core.Path.{_≡_, refl, sym, _∙_}
 use Prim.Native.Nat.{_-_}
+use mathlib.Core.Path.{_≡_, refl, sym, _∙_}
+use lib.ListN.{length, drop}
 use borrow.Author.Needs.{needs}
+use Rattle.commands.specs.Commands.{begins}
+use Rattle.commands.proofs.Beginnings.{whole-word, text-ended, other-byte, same-byte}
 use Rattle.commands.proofs.begins.Statement.{statement}
 use Rattle.commands.proofs.begins.Tie as tie
 

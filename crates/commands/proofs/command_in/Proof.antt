@@ -1,10 +1,10 @@
 -- `commands::command_in` meets its contract. `at1` to `at9` are the places behind the tests of the line: how each test came out stands there.
 -- Assumes nothing.
-use Rattle.commands.proofs.Beginnings.{long-enough}
-use Rattle.commands.specs.Commands.{commandOf}
 use mathlib.Core.Path.{refl, sym, _∙_}
 use mathlib.Core.List.{[], _∷_}
 use borrow.Author.Needs.{needs}
+use Rattle.commands.specs.Commands.{commandOf}
+use Rattle.commands.proofs.Beginnings.{long-enough}
 use Rattle.commands.proofs.command_in.Statement.{statement}
 use Rattle.commands.proofs.command_in.Tie as tie
 

@@ -1,11 +1,11 @@
 -- `commands::read_chips` meets its contract.
 -- Assumes nothing.
-use Rattle.commands.proofs.Arguments.{four-told}
-use Rattle.commands.specs.Commands.{readChips}
-use Rattle.commands.specs.declared.Command.the-variants as commands
-use Rattle.words.specs.Words.{ofNumber}
 use mathlib.Core.Bool.{true, false}
 use borrow.Author.Needs.{needs}
+use Rattle.words.specs.Words.{ofNumber}
+use Rattle.commands.specs.Commands.{readChips}
+use Rattle.commands.specs.declared.Command.the-variants as commands
+use Rattle.commands.proofs.Arguments.{four-told}
 use Rattle.commands.proofs.read_chips.Statement.{statement}
 use Rattle.commands.proofs.read_chips.Tie as tie
 

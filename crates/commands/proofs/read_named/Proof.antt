@@ -1,9 +1,9 @@
 -- `commands::read_named` meets its contract.
 -- Assumes nothing.
-use Rattle.commands.proofs.Named.{no-dot, dot, dot-fits, other-word, none-opened, last-opened}
-use native.Mathlib.Omega.{arith}
 use mathlib.Core.Path.{_∙_}
+use native.Mathlib.Omega.{arith}
 use borrow.Author.Needs.{needs}
+use Rattle.commands.proofs.Named.{no-dot, dot, dot-fits, other-word, none-opened, last-opened}
 use Rattle.commands.proofs.read_named.Statement.{statement}
 use Rattle.commands.proofs.read_named.Tie as tie
 

@@ -1,11 +1,11 @@
 -- `commands::read_seek` meets its contract.
 -- Assumes nothing.
-use Rattle.commands.proofs.Arguments.{two-told}
-use Rattle.commands.specs.Commands.{readSeek}
-use Rattle.commands.specs.declared.Command.the-variants as commands
-use Rattle.words.specs.Words.{ofNumber, ofChannel}
 use mathlib.Core.Bool.{true, false}
 use borrow.Author.Needs.{needs}
+use Rattle.words.specs.Words.{ofNumber, ofChannel}
+use Rattle.commands.specs.Commands.{readSeek}
+use Rattle.commands.specs.declared.Command.the-variants as commands
+use Rattle.commands.proofs.Arguments.{two-told}
 use Rattle.commands.proofs.read_seek.Statement.{statement}
 use Rattle.commands.proofs.read_seek.Tie as tie
 

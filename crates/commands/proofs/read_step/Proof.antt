@@ -1,11 +1,11 @@
 -- `commands::read_step` meets its contract.
 -- Assumes nothing.
-use Rattle.commands.proofs.Arguments.{one-told}
-use Rattle.commands.specs.Commands.{readStep}
-use Rattle.commands.specs.declared.Command.the-variants as commands
-use Rattle.words.specs.Words.{ofChannel}
 use mathlib.Core.Bool.{true, false}
 use borrow.Author.Needs.{needs}
+use Rattle.words.specs.Words.{ofChannel}
+use Rattle.commands.specs.Commands.{readStep}
+use Rattle.commands.specs.declared.Command.the-variants as commands
+use Rattle.commands.proofs.Arguments.{one-told}
 use Rattle.commands.proofs.read_step.Statement.{statement}
 use Rattle.commands.proofs.read_step.Tie as tie
 

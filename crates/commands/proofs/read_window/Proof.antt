@@ -1,11 +1,11 @@
 -- `commands::read_window` meets its contract.
 -- Assumes nothing.
-use Rattle.commands.proofs.Arguments.{four-told}
-use Rattle.commands.specs.Commands.{readWindow}
-use Rattle.commands.specs.declared.Command.the-variants as commands
-use Rattle.words.specs.Words.{ofNumber, ofChannel}
 use mathlib.Core.Bool.{true, false}
 use borrow.Author.Needs.{needs}
+use Rattle.words.specs.Words.{ofNumber, ofChannel}
+use Rattle.commands.specs.Commands.{readWindow}
+use Rattle.commands.specs.declared.Command.the-variants as commands
+use Rattle.commands.proofs.Arguments.{four-told}
 use Rattle.commands.proofs.read_window.Statement.{statement}
 use Rattle.commands.proofs.read_window.Tie as tie
 

@@ -1,21 +1,16 @@
 -- `console::answer` meets its contract.
 -- Assumes nothing.
 use Prim.Native.Nat.{_-_, _≤_, _<_}
-use mathlib.Core.Path.{_≡_, refl, sym, _∙_}
+use mathlib.Core.Path.{refl, sym}
+use native.Mathlib.Omega.{arith}
 use lib.Seq.{length-take-le}
 use lib.ListN.{length, take, drop, length-take, length-drop}
-use native.Mathlib.Omega.{arith}
+use borrow.Author.Needs.{needs}
 use Rattle.sessions.proofs.Talks.{fed-some}
 use Rattle.sessions.specs.Sessions.{talk}
 use Rattle.console.proofs.Buffers.{Lent}
-use borrow.Author.Needs.{needs}
 use Rattle.console.proofs.answer.Statement.{statement}
 use Rattle.console.proofs.answer.Tie as tie
-use Rattle.console.proofs.answer.Reads as reads
-use Rattle.console.proofs.answer.Lts as lts
-use Rattle.console.proofs.help.Reads as help-reads
-use Rattle.console.proofs.wrote.Reads as wrote-reads
-use Rattle.sessions.proofs.feed.Reads as feed-reads
 
 abbrev Inv-loop : tie.InvT-loop
 Inv-loop line₀ input work₀ out₀ text state₀ at₀ line work out state at = (at ≤ length input) × Lent line₀ work₀ out₀ line work out state

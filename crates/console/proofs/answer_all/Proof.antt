@@ -3,15 +3,9 @@
 use Prim.Native.Nat.{_≤_}
 use mathlib.Core.Path.{_≡_}
 use lib.ListN.{length}
-use native.Mathlib.Omega.{arith}
 use borrow.Author.Needs.{needs}
 use Rattle.console.proofs.answer_all.Statement.{statement}
 use Rattle.console.proofs.answer_all.Tie as tie
-use Rattle.console.proofs.answer_all.Reads as reads
-use Rattle.console.proofs.answer_all.Lts as lts
-use Rattle.console.proofs.finish.Reads as finish-reads
-use Rattle.console.proofs.read_once.Reads as read-once-reads
-use Rattle.sessions.proofs.begun.Reads as begun-reads
 
 abbrev Inv-loop : tie.InvT-loop
 Inv-loop line₀ work₀ out₀ state₀ turns₀ line work out state turns = (state .len ≤ 1024) × ((length line ≡ 1024) × ((length work ≡ 131072) × (length out ≡ 131072)))

@@ -2,17 +2,11 @@
 -- Assumes nothing.
 use mathlib.Core.Path.{sym}
 use lib.Seq.{length-take-le}
-use native.Mathlib.Omega.{arith}
+use borrow.Author.Needs.{needs}
 use Rattle.texts.proofs.Written.{begins-within}
 use Rattle.sessions.specs.Sessions.{lastAnswer, talk}
-use borrow.Author.Needs.{needs}
 use Rattle.console.proofs.finish.Statement.{statement}
 use Rattle.console.proofs.finish.Tie as tie
-use Rattle.console.proofs.finish.Reads as reads
-use Rattle.console.proofs.finish.Lts as lts
-use Rattle.console.proofs.help.Reads as help-reads
-use Rattle.console.proofs.wrote.Reads as wrote-reads
-use Rattle.sessions.proofs.finish.Reads as finish-reads
 
 help-requires : tie.Need-help-requires
 help-requires c κs = search needs

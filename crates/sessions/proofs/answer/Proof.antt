@@ -1,14 +1,10 @@
 -- `sessions::answer` meets its contract.
 -- Assumes nothing.
 use mathlib.Core.Path.{subst}
-use Rattle.sessions.proofs.Talks.{Told}
 use borrow.Author.Needs.{needs}
+use Rattle.sessions.proofs.Talks.{Told}
 use Rattle.sessions.proofs.answer.Statement.{statement}
 use Rattle.sessions.proofs.answer.Tie as tie
-use Rattle.sessions.proofs.answer.Reads as reads
-use Rattle.sessions.proofs.answer.Lts as lts
-use Rattle.commands.proofs.command_in.Reads as command-in-reads
-use Rattle.sessions.proofs.answer_command.Reads as answer-command-reads
 
 command-in-requires : tie.Need-command-in-requires
 command-in-requires c κs = search needs

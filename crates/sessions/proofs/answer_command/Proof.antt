@@ -1,24 +1,12 @@
 -- `sessions::answer_command` meets its contract.
 -- Assumes nothing.
 use mathlib.Core.Path.{refl, sym, subst}
+use borrow.Author.Needs.{needs}
+use Rattle.answers.proofs.Lines.{puts-begins}
 use Rattle.sessions.specs.Sessions.{answerOf, lastOf}
 use Rattle.sessions.proofs.Talks.{Told}
-use Rattle.answers.proofs.Lines.{puts-begins}
-use borrow.Author.Needs.{needs}
 use Rattle.sessions.proofs.answer_command.Statement.{statement}
 use Rattle.sessions.proofs.answer_command.Tie as tie
-use Rattle.sessions.proofs.answer_command.Reads as reads
-use Rattle.sessions.proofs.answer_command.Lts as lts
-use Rattle.answers.proofs.chips.Reads as chips-reads
-use Rattle.answers.proofs.error.Reads as error-reads
-use Rattle.answers.proofs.gap.Reads as gap-reads
-use Rattle.answers.proofs.open.Reads as open-reads
-use Rattle.answers.proofs.place_of.Reads as place-of-reads
-use Rattle.answers.proofs.reading.Reads as reading-reads
-use Rattle.answers.proofs.seek.Reads as seek-reads
-use Rattle.answers.proofs.step.Reads as step-reads
-use Rattle.answers.proofs.window.Reads as window-reads
-use Rattle.texts.proofs.put.Reads as put-reads
 
 enum-known-command : tie.Need-enum-known-command
 enum-known-command c = search needs

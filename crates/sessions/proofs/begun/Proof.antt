@@ -1,17 +1,11 @@
 -- `sessions::begun` meets its contract.
 -- Assumes nothing.
 use mathlib.Core.Path.{_≡_, refl}
-use Rattle.sessions.specs.Sessions.{nothing}
--- `sessions::begun` meets its contract.
--- Assumes nothing.
 use mathlib.Core.Bool.{false}
-use mathlib.Core.Path.{refl}
 use borrow.Author.Needs.{needs}
+use Rattle.sessions.specs.Sessions.{nothing}
 use Rattle.sessions.proofs.begun.Statement.{statement}
 use Rattle.sessions.proofs.begun.Tie as tie
-use Rattle.sessions.proofs.begun.Reads as reads
-use Rattle.sessions.proofs.begun.Lts as lts
-use Rattle.sessions.proofs.nothing.Reads as nothing-reads
 
 nothing-requires : tie.Need-nothing-requires
 nothing-requires c κs = search needs

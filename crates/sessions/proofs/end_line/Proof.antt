@@ -3,20 +3,16 @@
 use Prim.Native.Nat.{ℕ, _+_, _-_, _≤_}
 use mathlib.Core.Path.{_≡_, sym, ap, subst}
 use mathlib.Core.List.{List}
+use native.Mathlib.Omega.{arith}
 use lib.Seq.{length-take-le}
 use lib.ListN.{length, take, drop, length-take}
-use native.Mathlib.Omega.{arith}
+use borrow.Author.Needs.{needs}
 use Rattle.texts.proofs.Written.{begins-fits, part-written}
 use Rattle.commands.specs.Commands.{commandOf}
 use Rattle.sessions.specs.Sessions.{answerOf, asked, talk}
 use Rattle.sessions.proofs.Talks.{Told}
-use borrow.Author.Needs.{needs}
 use Rattle.sessions.proofs.end_line.Statement.{statement}
 use Rattle.sessions.proofs.end_line.Tie as tie
-use Rattle.sessions.proofs.end_line.Reads as reads
-use Rattle.sessions.proofs.end_line.Lts as lts
-use Rattle.sessions.proofs.answer.Reads as answer-reads
-use Rattle.sessions.proofs.push.Reads as push-reads
 
 push-requires : tie.Need-push-requires
 push-requires c κs = search needs

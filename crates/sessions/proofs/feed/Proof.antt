@@ -1,16 +1,13 @@
 -- `sessions::feed` meets its contract.
 -- Assumes nothing.
-use Prim.Native.Nat.{_-_, _<_}
-use lib.ListN.{length}
+use Prim.Native.Nat.{_-_}
 use native.Mathlib.Omega.{arith}
+use lib.ListN.{length}
+use borrow.Author.Needs.{needs}
 use Rattle.sessions.specs.Sessions.{talk}
 use Rattle.sessions.proofs.Talks.{FedSoFar, fed-none, fed-more}
-use borrow.Author.Needs.{needs}
 use Rattle.sessions.proofs.feed.Statement.{statement}
 use Rattle.sessions.proofs.feed.Tie as tie
-use Rattle.sessions.proofs.feed.Reads as reads
-use Rattle.sessions.proofs.feed.Lts as lts
-use Rattle.sessions.proofs.turn.Reads as turn-reads
 
 abbrev Inv-loop : tie.InvT-loop
 Inv-loop line₀ input help work₀ out₀ state₀ n₀ i₀ line work out state n i = FedSoFar help input out₀ work₀ work (talk line₀ state₀) out line state n i

@@ -2,16 +2,13 @@
 -- Assumes nothing.
 use mathlib.Core.Path.{sym}
 use mathlib.Core.List.{[]}
+use borrow.Author.Needs.{needs}
 use Rattle.texts.proofs.Written.{begins-none, begins-as}
 use Rattle.answers.proofs.Lines.{puts-begins}
 use Rattle.sessions.specs.Sessions.{answerOf, asked, talk, lastAnswer}
 use Rattle.sessions.proofs.Talks.{none-held, some-held}
-use borrow.Author.Needs.{needs}
 use Rattle.sessions.proofs.finish.Statement.{statement}
 use Rattle.sessions.proofs.finish.Tie as tie
-use Rattle.sessions.proofs.finish.Reads as reads
-use Rattle.sessions.proofs.finish.Lts as lts
-use Rattle.sessions.proofs.end_line.Reads as end-line-reads
 
 returns : tie.Need-returns
 returns c =

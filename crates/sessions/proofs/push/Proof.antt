@@ -1,12 +1,10 @@
 -- `sessions::push` meets its contract.
 -- Assumes nothing.
 use native.Mathlib.Omega.{arith}
-use Rattle.texts.proofs.Saying.{full, one-more}
 use borrow.Author.Needs.{needs}
+use Rattle.texts.proofs.Saying.{full, one-more}
 use Rattle.sessions.proofs.push.Statement.{statement}
 use Rattle.sessions.proofs.push.Tie as tie
-use Rattle.sessions.proofs.push.Reads as reads
-use Rattle.sessions.proofs.push.Lts as lts
 
 returns : tie.Need-returns
 returns c =

@@ -1,23 +1,19 @@
 -- `sessions::turn` meets its contract.
 -- Assumes nothing.
 use Prim.Native.Nat.{ℕ, _+_}
-use mathlib.Core.Path.{_≡_, sym, ap, _∙_}
+use mathlib.Core.Path.{sym, ap, _∙_}
 use mathlib.Core.List.{List, []}
-use lib.ListN.{length}
 use native.Mathlib.Omega.{arith}
 use native.Mathlib.Nat.{add-zero}
+use lib.ListN.{length}
+use borrow.Author.Needs.{needs}
 use Rattle.words.specs.declared.Last.{Last}
 use Rattle.texts.proofs.Written.{written-none}
 use Rattle.engine.specs.Replies.{written}
-use Rattle.sessions.specs.Sessions.{Talk, talk}
+use Rattle.sessions.specs.Sessions.{talk}
 use Rattle.sessions.proofs.Talks.{newline-next, newline-said, other-next, other-said}
-use borrow.Author.Needs.{needs}
 use Rattle.sessions.proofs.turn.Statement.{statement}
 use Rattle.sessions.proofs.turn.Tie as tie
-use Rattle.sessions.proofs.turn.Reads as reads
-use Rattle.sessions.proofs.turn.Lts as lts
-use Rattle.sessions.proofs.end_line.Reads as end-line-reads
-use Rattle.sessions.proofs.push.Reads as push-reads
 
 end-line-requires : tie.Need-end-line-requires
 end-line-requires c κs = search needs

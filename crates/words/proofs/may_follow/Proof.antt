@@ -1,19 +1,15 @@
 -- `words::may_follow` meets its contract.
 -- Assumes nothing.
+use mathlib.Core.Bool.{true}
+use mathlib.Core.Path.{_≡_, sym, _∙_}
+use native.Mathlib.Omega.{arith}
+use borrow.Author.Tests.{not-true, not-false}
+use borrow.Author.Needs.{needs}
+use Rattle.fields.specs.Fields.{digit}
 use Rattle.words.proofs.Bytes.{no-follow, follow}
 use Rattle.words.proofs.Numbers.{digit-range}
-use Rattle.fields.specs.Fields.{digit}
-use borrow.Author.Tests.{not-true, not-false}
-use native.Mathlib.Omega.{arith}
-use mathlib.Core.Bool.{true, false}
-use mathlib.Core.Path.{_≡_, sym, _∙_}
-use borrow.Author.Needs.{needs}
 use Rattle.words.proofs.may_follow.Statement.{statement}
 use Rattle.words.proofs.may_follow.Tie as tie
-use Rattle.words.proofs.may_follow.Reads as reads
-use Rattle.words.proofs.may_follow.Lts as lts
-use Rattle.fields.proofs.digit_value.Reads as digit-value-reads
-use Rattle.fields.proofs.is_digit.Reads as is-digit-reads
 
 is-digit-requires : tie.Need-is-digit-requires
 is-digit-requires c κs = search needs

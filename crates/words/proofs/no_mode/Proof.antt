@@ -1,17 +1,14 @@
 -- `words::no_mode` meets its contract.
 -- Assumes nothing.
-use Rattle.words.proofs.Bytes.{none-left}
-use Rattle.machine.specs.declared.Mode.the-variants as modes
-use mathlib.Core.Bool.{false}
 use Prim.Native.Nat.{ℕ}
-use native.Mathlib.Omega.{arith}
+use mathlib.Core.Bool.{false}
 use mathlib.Core.List.{List}
-use mathlib.Core.Path.{refl, ap}
-use borrow.Author.Needs.{needs}
+use mathlib.Core.Path.{ap}
+use native.Mathlib.Omega.{arith}
+use Rattle.machine.specs.declared.Mode.the-variants as modes
+use Rattle.words.proofs.Bytes.{none-left}
 use Rattle.words.proofs.no_mode.Statement.{statement}
 use Rattle.words.proofs.no_mode.Tie as tie
-use Rattle.words.proofs.no_mode.Reads as reads
-use Rattle.words.proofs.no_mode.Lts as lts
 
 returns : tie.Need-returns
 returns c =

@@ -1,16 +1,12 @@
 -- `words::no_number` meets its contract.
 -- Assumes nothing.
-use Rattle.words.proofs.Bytes.{none-left}
-use Rattle.words.specs.Words.{Read}
-use mathlib.Core.Bool.{false}
 use Prim.Native.Nat.{ℕ}
+use mathlib.Core.Bool.{false}
 use mathlib.Core.List.{List}
 use mathlib.Core.Path.{refl, ap}
-use borrow.Author.Needs.{needs}
+use Rattle.words.proofs.Bytes.{none-left}
 use Rattle.words.proofs.no_number.Statement.{statement}
 use Rattle.words.proofs.no_number.Tie as tie
-use Rattle.words.proofs.no_number.Reads as reads
-use Rattle.words.proofs.no_number.Lts as lts
 
 returns : tie.Need-returns
 returns c =

@@ -1,22 +1,18 @@
 -- `words::past_zeros` meets its contract.
 -- Assumes nothing.
-use Prim.Native.Nat.{ℕ, zero, suc, _+_, _-_, _≤_, _<_}
+use Prim.Native.Nat.{ℕ, _+_, _≤_, _<_}
 use mathlib.Core.Path.{_≡_, refl, sym, ap, _∙_}
-use mathlib.Core.List.{List}
 use mathlib.Core.Bool.{Bool, true, false, _&&_}
 use native.Mathlib.Omega.{arith}
 use lib.Dec.{eqb}
 use lib.ListN.{length, drop, getD}
 use borrow.Author.Tests.{not-true, not-false}
+use borrow.Author.Needs.{needs}
 use Rattle.fields.specs.Fields.{digit}
 use Rattle.words.specs.Words.{unpadded}
 use Rattle.words.proofs.Bytes.{none-behind-zero, zeros-end, zero-passed}
-use borrow.Author.Needs.{needs}
 use Rattle.words.proofs.past_zeros.Statement.{statement}
 use Rattle.words.proofs.past_zeros.Tie as tie
-use Rattle.words.proofs.past_zeros.Reads as reads
-use Rattle.words.proofs.past_zeros.Lts as lts
-use Rattle.fields.proofs.is_digit.Reads as is-digit-reads
 
 abbrev Inv-loop : tie.InvT-loop
 Inv-loop text from at₀ left₀ at left = (at ≤ length text) × (unpadded 19 (drop from text) ≡ unpadded left (drop at text))

@@ -1,18 +1,14 @@
 -- `words::put_channel` meets its contract.
 -- Assumes nothing.
+use mathlib.Core.List.{_++_}
+use native.Mathlib.Omega.{arith}
+use borrow.Author.Needs.{needs}
+use Rattle.texts.proofs.Written.{puts-more, puts-room}
+use Rattle.words.specs.Words.{numberWord, generatorsWord, channelWord}
 use Rattle.words.proofs.Writing.{four-put}
 use Rattle.words.proofs.Numbers.{number-short}
-use Rattle.words.specs.Words.{numberWord, generatorsWord, channelWord}
-use Rattle.texts.proofs.Written.{puts-more, puts-room}
-use native.Mathlib.Omega.{arith}
-use mathlib.Core.List.{_++_}
-use borrow.Author.Needs.{needs}
 use Rattle.words.proofs.put_channel.Statement.{statement}
 use Rattle.words.proofs.put_channel.Tie as tie
-use Rattle.words.proofs.put_channel.Reads as reads
-use Rattle.words.proofs.put_channel.Lts as lts
-use Rattle.words.proofs.put_generators.Reads as put-generators-reads
-use Rattle.words.proofs.put_number.Reads as put-number-reads
 
 cast-put-number : tie.Need-cast-put-number
 cast-put-number c = search needs

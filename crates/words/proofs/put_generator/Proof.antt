@@ -1,17 +1,13 @@
 -- `words::put_generator` meets its contract.
 -- Assumes nothing.
-use Rattle.words.proofs.Writing.{four-put}
-use Rattle.words.proofs.Numbers.{number-short}
-use Rattle.words.specs.Words.{numberWord, modeWord, generatorWord}
-use Rattle.texts.proofs.Written.{puts-room}
 use native.Mathlib.Omega.{arith}
 use borrow.Author.Needs.{needs}
+use Rattle.texts.proofs.Written.{puts-room}
+use Rattle.words.specs.Words.{numberWord, modeWord, generatorWord}
+use Rattle.words.proofs.Writing.{four-put}
+use Rattle.words.proofs.Numbers.{number-short}
 use Rattle.words.proofs.put_generator.Statement.{statement}
 use Rattle.words.proofs.put_generator.Tie as tie
-use Rattle.words.proofs.put_generator.Reads as reads
-use Rattle.words.proofs.put_generator.Lts as lts
-use Rattle.words.proofs.put_mode.Reads as put-mode-reads
-use Rattle.words.proofs.put_number.Reads as put-number-reads
 
 cast-put-number : tie.Need-cast-put-number
 cast-put-number c = search needs

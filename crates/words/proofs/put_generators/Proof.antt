@@ -1,15 +1,12 @@
 -- `words::put_generators` meets its contract.
 -- Assumes nothing.
-use Rattle.words.proofs.Writing.{generator-short, four-put}
-use Rattle.words.specs.Words.{generatorWord, generatorsWord}
-use Rattle.texts.proofs.Written.{puts-room}
 use native.Mathlib.Omega.{arith}
 use borrow.Author.Needs.{needs}
+use Rattle.texts.proofs.Written.{puts-room}
+use Rattle.words.specs.Words.{generatorWord, generatorsWord}
+use Rattle.words.proofs.Writing.{generator-short, four-put}
 use Rattle.words.proofs.put_generators.Statement.{statement}
 use Rattle.words.proofs.put_generators.Tie as tie
-use Rattle.words.proofs.put_generators.Reads as reads
-use Rattle.words.proofs.put_generators.Lts as lts
-use Rattle.words.proofs.put_generator.Reads as put-generator-reads
 
 put-generator-requires : tie.Need-put-generator-requires
 put-generator-requires c κs = search needs

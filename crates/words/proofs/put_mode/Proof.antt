@@ -1,20 +1,15 @@
 -- `words::put_mode` meets its contract.
 -- Assumes nothing.
-use Rattle.words.specs.Words.{numberWord, modeWord}
+use mathlib.Core.List.{[], _∷_}
+use mathlib.Core.Path.{subst, sym}
+use native.Mathlib.Omega.{arith}
+use borrow.Author.Needs.{needs}
 use Rattle.texts.proofs.Written.{puts-more}
 use Rattle.texts.specs.Buffers.{Puts}
 use Rattle.machine.specs.declared.Mode.{Mode}
-use native.Mathlib.Omega.{arith}
-use mathlib.Core.List.{List, [], _∷_}
-use mathlib.Core.Path.{subst, sym}
-use Prim.Native.Nat.{ℕ, _+_}
-use borrow.Author.Needs.{needs}
+use Rattle.words.specs.Words.{numberWord, modeWord}
 use Rattle.words.proofs.put_mode.Statement.{statement}
 use Rattle.words.proofs.put_mode.Tie as tie
-use Rattle.words.proofs.put_mode.Reads as reads
-use Rattle.words.proofs.put_mode.Lts as lts
-use Rattle.texts.proofs.put.Reads as put-reads
-use Rattle.words.proofs.put_number.Reads as put-number-reads
 
 enum-told : tie.Need-enum-told
 enum-told c = search needs

@@ -1,17 +1,13 @@
 -- `words::put_number` meets its contract.
 -- Assumes nothing.
-use Rattle.words.proofs.Numbers.{twenty-hold}
-use Rattle.words.proofs.Writing.{digits-room, mark-room, number-put}
 use Prim.Native.Nat.{_≤_}
 use mathlib.Core.List.{[]}
 use native.Mathlib.Omega.{arith}
 use borrow.Author.Needs.{needs}
+use Rattle.words.proofs.Numbers.{twenty-hold}
+use Rattle.words.proofs.Writing.{digits-room, mark-room, number-put}
 use Rattle.words.proofs.put_number.Statement.{statement}
 use Rattle.words.proofs.put_number.Tie as tie
-use Rattle.words.proofs.put_number.Reads as reads
-use Rattle.words.proofs.put_number.Lts as lts
-use Rattle.io.proofs.decimal.Reads as decimal-reads
-use Rattle.texts.proofs.put.Reads as put-reads
 
 decimal-requires : tie.Need-decimal-requires
 decimal-requires c κs = search needs

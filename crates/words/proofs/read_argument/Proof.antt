@@ -1,14 +1,10 @@
 -- `words::read_argument` meets its contract.
 -- Assumes nothing.
-use mathlib.Core.Path.{_≡_, ap, _∙_}
-use Rattle.words.specs.Words.{readNumber, readArgument, most64}
+use mathlib.Core.Path.{ap, _∙_}
 use borrow.Author.Needs.{needs}
+use Rattle.words.specs.Words.{readNumber, readArgument, most64}
 use Rattle.words.proofs.read_argument.Statement.{statement}
 use Rattle.words.proofs.read_argument.Tie as tie
-use Rattle.words.proofs.read_argument.Reads as reads
-use Rattle.words.proofs.read_argument.Lts as lts
-use Rattle.words.proofs.past_zeros.Reads as past-zeros-reads
-use Rattle.words.proofs.read_number.Reads as read-number-reads
 
 -- src/lib.rt:189:23
 past-zeros-requires : tie.Need-past-zeros-requires

@@ -1,16 +1,12 @@
 -- `words::read_channel` meets its contract.
 -- Assumes nothing.
-use Rattle.words.proofs.RoundTrip.{afterSignal, afterPrn, afterPlace, afterEpoch, afterDelay, afterFirst, afterSecond, afterThird}
-use Rattle.words.specs.Words.{ofNumber, ofGenerator, channelFrom, readChannel}
-use native.Mathlib.Omega.{arith}
 use mathlib.Core.Path.{ap, _∙_}
+use native.Mathlib.Omega.{arith}
 use borrow.Author.Needs.{needs}
+use Rattle.words.specs.Words.{ofNumber, ofGenerator, channelFrom, readChannel}
+use Rattle.words.proofs.RoundTrip.{afterSignal, afterPrn, afterPlace, afterEpoch, afterDelay, afterFirst, afterSecond, afterThird}
 use Rattle.words.proofs.read_channel.Statement.{statement}
 use Rattle.words.proofs.read_channel.Tie as tie
-use Rattle.words.proofs.read_channel.Reads as reads
-use Rattle.words.proofs.read_channel.Lts as lts
-use Rattle.words.proofs.read_generator.Reads as read-generator-reads
-use Rattle.words.proofs.read_number.Reads as read-number-reads
 
 read-number-requires : tie.Need-read-number-requires
 read-number-requires c κs = search needs

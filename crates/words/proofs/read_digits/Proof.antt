@@ -1,24 +1,16 @@
 -- `words::read_digits` meets its contract.
 -- Assumes nothing.
+use Prim.Native.Nat.{_-_, _≤_, _<_}
+use mathlib.Core.Path.{_≡_, refl, sym, _∙_}
+use native.Mathlib.Omega.{arith}
+use lib.ListN.{length, drop, getD}
+use borrow.Author.Tests.{not-true, not-false}
+use borrow.Author.Needs.{needs}
+use Rattle.words.specs.Words.{digitsOn}
 use Rattle.words.proofs.Bytes.{on-mark, on-refused, on-more, on-end}
 use Rattle.words.proofs.Numbers.{follows}
-use Rattle.words.specs.Words.{digitsOn}
-use Rattle.fields.specs.Fields.{digit}
-use borrow.Author.Tests.{not-true, not-false}
-use lib.ListN.{length, drop, getD}
-use lib.Dec.{ltb, leb}
-use native.Mathlib.Omega.{arith}
-use mathlib.Core.Bool.{Bool, true, false, _&&_}
-use mathlib.Core.Path.{_≡_, refl, sym, ap, _∙_}
-use Prim.Native.Nat.{ℕ, _+_, _-_, _*_, _≤_, _<_}
-use borrow.Author.Needs.{needs}
 use Rattle.words.proofs.read_digits.Statement.{statement}
 use Rattle.words.proofs.read_digits.Tie as tie
-use Rattle.words.proofs.read_digits.Reads as reads
-use Rattle.words.proofs.read_digits.Lts as lts
-use Rattle.fields.proofs.digit_value.Reads as digit-value-reads
-use Rattle.words.proofs.may_follow.Reads as may-follow-reads
-use Rattle.words.proofs.no_number.Reads as no-number-reads
 
 abbrev Inv-loop : tie.InvT-loop
 Inv-loop text from first most mark n₀ i₀ n i = (i ≤ length text) × ((n ≤ most) × ((9 ≤ most) × (digitsOn most mark first (drop from text) ≡ digitsOn most mark n (drop i text))))

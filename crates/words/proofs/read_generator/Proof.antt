@@ -1,15 +1,11 @@
 -- `words::read_generator` meets its contract.
 -- Assumes nothing.
-use Rattle.words.proofs.Generators.{afterRegister, afterPhase, afterCycles}
-use Rattle.words.specs.Words.{ofNumber, generatorFrom, readGenerator}
 use mathlib.Core.Path.{ap, _∙_}
 use borrow.Author.Needs.{needs}
+use Rattle.words.specs.Words.{ofNumber, generatorFrom, readGenerator}
+use Rattle.words.proofs.Generators.{afterRegister, afterPhase, afterCycles}
 use Rattle.words.proofs.read_generator.Statement.{statement}
 use Rattle.words.proofs.read_generator.Tie as tie
-use Rattle.words.proofs.read_generator.Reads as reads
-use Rattle.words.proofs.read_generator.Lts as lts
-use Rattle.words.proofs.read_mode.Reads as read-mode-reads
-use Rattle.words.proofs.read_number.Reads as read-number-reads
 
 read-number-requires : tie.Need-read-number-requires
 read-number-requires c κs = search needs

@@ -1,13 +1,10 @@
 -- `words::read_held` meets its contract.
 -- Assumes nothing.
-use Rattle.words.specs.Words.{heldFrom}
 use mathlib.Core.Path.{ap}
 use borrow.Author.Needs.{needs}
+use Rattle.words.specs.Words.{heldFrom}
 use Rattle.words.proofs.read_held.Statement.{statement}
 use Rattle.words.proofs.read_held.Tie as tie
-use Rattle.words.proofs.read_held.Reads as reads
-use Rattle.words.proofs.read_held.Lts as lts
-use Rattle.words.proofs.read_number.Reads as read-number-reads
 
 read-number-requires : tie.Need-read-number-requires
 read-number-requires c κs = search needs

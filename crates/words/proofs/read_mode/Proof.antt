@@ -1,15 +1,10 @@
 -- `words::read_mode` meets its contract.
 -- Assumes nothing.
-use Rattle.words.proofs.Bytes.{no-mode, is-running, is-held, other-mode}
 use mathlib.Core.Path.{sym, _∙_}
 use borrow.Author.Needs.{needs}
+use Rattle.words.proofs.Bytes.{no-mode, is-running, is-held, other-mode}
 use Rattle.words.proofs.read_mode.Statement.{statement}
 use Rattle.words.proofs.read_mode.Tie as tie
-use Rattle.words.proofs.read_mode.Reads as reads
-use Rattle.words.proofs.read_mode.Lts as lts
-use Rattle.words.proofs.no_mode.Reads as no-mode-reads
-use Rattle.words.proofs.read_held.Reads as read-held-reads
-use Rattle.words.proofs.read_running.Reads as read-running-reads
 
 no-mode-requires : tie.Need-no-mode-requires
 no-mode-requires c κs = search needs

@@ -1,23 +1,16 @@
 -- `words::read_number` meets its contract.
 -- Assumes nothing.
-use Rattle.words.proofs.Bytes.{no-byte, no-first, first-digit}
-use Rattle.words.proofs.Numbers.{digit-range}
-use Rattle.fields.specs.Fields.{digit}
-use borrow.Author.Tests.{not-true, not-false}
-use lib.ListN.{length, getD}
-use native.Mathlib.Omega.{arith}
 use mathlib.Core.Bool.{true}
 use mathlib.Core.Path.{_≡_, sym, _∙_}
-use Prim.Native.Nat.{_<_}
+use native.Mathlib.Omega.{arith}
+use lib.ListN.{getD}
+use borrow.Author.Tests.{not-true, not-false}
 use borrow.Author.Needs.{needs}
+use Rattle.fields.specs.Fields.{digit}
+use Rattle.words.proofs.Bytes.{no-byte, no-first, first-digit}
+use Rattle.words.proofs.Numbers.{digit-range}
 use Rattle.words.proofs.read_number.Statement.{statement}
 use Rattle.words.proofs.read_number.Tie as tie
-use Rattle.words.proofs.read_number.Reads as reads
-use Rattle.words.proofs.read_number.Lts as lts
-use Rattle.fields.proofs.digit_value.Reads as digit-value-reads
-use Rattle.fields.proofs.is_digit.Reads as is-digit-reads
-use Rattle.words.proofs.no_number.Reads as no-number-reads
-use Rattle.words.proofs.read_digits.Reads as read-digits-reads
 
 no-number-requires : tie.Need-no-number-requires
 no-number-requires c κs = search needs

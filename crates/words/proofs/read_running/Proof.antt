@@ -1,14 +1,11 @@
 -- `words::read_running` meets its contract.
 -- Assumes nothing.
-use Rattle.words.proofs.Bytes.{no-running, other-mark, runs}
+use mathlib.Core.Path.{sym, _∙_}
 use native.Mathlib.Omega.{arith}
-use mathlib.Core.Path.{_≡_, sym, _∙_}
 use borrow.Author.Needs.{needs}
+use Rattle.words.proofs.Bytes.{no-running, other-mark, runs}
 use Rattle.words.proofs.read_running.Statement.{statement}
 use Rattle.words.proofs.read_running.Tie as tie
-use Rattle.words.proofs.read_running.Reads as reads
-use Rattle.words.proofs.read_running.Lts as lts
-use Rattle.words.proofs.no_mode.Reads as no-mode-reads
 
 no-mode-requires : tie.Need-no-mode-requires
 no-mode-requires c κs = search needs
