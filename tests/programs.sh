@@ -39,6 +39,24 @@ check_chunks() {
     echo "lines cut into pieces of $1 to $size bytes: the same answers"
 }
 
+# check_junk ANSWER: no line gets no answer; an empty one, and a long one with its newline or without, get this one.
+check_junk() {
+    : >"$out/empty"
+    echo "$1" >"$out/junk"
+    answers "empty input" "$out/empty" <"$out/empty"
+    echo | answers "an empty line" "$out/junk"
+    head -c 5000000 /dev/zero | answers "a line of 5,000,000 bytes without its newline" "$out/junk"
+    { head -c 5000000 /dev/zero && echo; } | answers "a line of 5,000,000 bytes" "$out/junk"
+    echo "no line, an empty one and long ones: one answer to each line"
+}
+
+# check_unfinished LINE ANSWER: a last line lacking its newline.
+check_unfinished() {
+    echo "$2" >"$out/unfinished"
+    printf '%s' "$1" | answers "a last line lacking its newline" "$out/unfinished"
+    echo "a last line lacking its newline: $2"
+}
+
 # check_prompt_answer LINE ANSWER: who types a line sees its answer before the input ends.
 check_prompt_answer() {
     local answer

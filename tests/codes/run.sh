@@ -6,17 +6,6 @@ set -eu
 name=codes
 . "$(dirname "$0")/../programs.sh"
 
-check_small() {
-    : >"$out/empty"
-    printf 'refused 9\n' >"$out/refused"
-    answers "empty input" "$out/empty" <"$out/empty"
-    printf '\n' | answers "an empty line" "$out/refused"
-    printf '2 1 0 12' | answers "a last line lacking its newline" "$out/refused"
-    head -c 5000000 /dev/zero | answers "a line of 5,000,000 bytes without its newline" "$out/refused"
-    { head -c 5000000 /dev/zero && echo; } | answers "a line of 5,000,000 bytes" "$out/refused"
-    echo "no line, an empty one, unfinished ones and long ones: one reply to each line"
-}
-
 # More replies than a buffer holds, longer than their lines.
 check_many() {
     local count=200000
@@ -27,7 +16,8 @@ check_many() {
 }
 
 check_chunks 1 2 7 10 55 56 57 100 1000
-check_small
+check_junk 'refused 9'
+check_unfinished '2 1 0 12' 'refused 9'
 check_many
 check_prompt_answer '2 1 0 12' '2 1 0 100100100100'
 check_read_errors

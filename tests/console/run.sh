@@ -7,18 +7,12 @@ set -eu
 name=console
 . "$(dirname "$0")/../programs.sh"
 
-check_small() {
-    : >"$out/empty"
-    printf 'error\n' >"$out/error"
-    printf 'ok 0 1\n' >"$out/ok"
-    answers "empty input" "$out/empty" <"$out/empty"
-    printf '\n' | answers "an empty line" "$out/error"
-    printf 'reading 2 1' | answers "a last line lacking its newline" "$out/ok"
-    head -c 5000000 /dev/zero | answers "a line of 5,000,000 bytes without its newline" "$out/error"
-    { head -c 5000000 /dev/zero && echo; } | answers "a line of 5,000,000 bytes" "$out/error"
-    cat "$out/error" "$out/ok" >"$out/both"
-    { printf 'reading 2 ' && head -c 5000000 /dev/zero | tr '\0' 0 && printf '1\nreading 2 1\n'; } | answers "a number of 5,000,001 digits, and a line behind it" "$out/both"
-    echo "no line, an empty one, unfinished ones and long ones: one answer to each line"
+# A line far longer than is kept is an error, and the next one is read as usual.
+check_long_line() {
+    printf 'error\nok 0 1\n' >"$out/both"
+    { printf 'reading 2 ' && head -c 5000000 /dev/zero | tr '\0' 0 && printf '1\nreading 2 1\n'; } |
+        answers "a number of 5,000,001 digits, and a line behind it" "$out/both"
+    echo "a number of 5,000,001 digits: an error, and the line behind it is answered"
 }
 
 # 100,000 commands, in seconds: short ones, and some whose answers are the longest that there are.
@@ -57,7 +51,9 @@ check_greeting() {
 }
 
 check_chunks 1 2 7 100 1000 1023 1024 1025 5000
-check_small
+check_junk error
+check_unfinished 'reading 2 1' 'ok 0 1'
+check_long_line
 check_many
 check_channels
 check_greeting

@@ -1,8 +1,8 @@
--- `engine::at_zero` meets its contract.
+-- `opens::at_zero` meets its contract.
 -- Assumes nothing.
 use borrow.Author.Needs.{needs}
-use Rattle.engine.proofs.at_zero.Statement.{statement}
-use Rattle.engine.proofs.at_zero.Tie as tie
+use Rattle.opens.proofs.at_zero.Statement.{statement}
+use Rattle.opens.proofs.at_zero.Tie as tie
 
 fresh-generator-requires : tie.Need-fresh-generator-requires
 fresh-generator-requires c κs = search needs

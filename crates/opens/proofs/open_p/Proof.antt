@@ -1,8 +1,8 @@
--- `engine::open_p` meets its contract.
+-- `opens::open_p` meets its contract.
 -- Assumes nothing.
 use borrow.Author.Needs.{needs}
-use Rattle.engine.proofs.open_p.Statement.{statement}
-use Rattle.engine.proofs.open_p.Tie as tie
+use Rattle.opens.proofs.open_p.Statement.{statement}
+use Rattle.opens.proofs.open_p.Tie as tie
 
 sub-line : tie.Need-sub-line
 sub-line c = search needs

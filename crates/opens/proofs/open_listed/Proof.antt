@@ -1,10 +1,10 @@
--- `engine::open_listed` meets its contract.
+-- `opens::open_listed` meets its contract.
 -- Assumes nothing.
 use mathlib.Core.Path.{_∙_, sym}
 use borrow.Author.Needs.{needs}
 use Rattle.machine.proofs.Numbered.{is-ca, is-p, is-cm, is-cl, is-i5, is-q5, is-sixth, opened-is}
-use Rattle.engine.proofs.open_listed.Statement.{statement}
-use Rattle.engine.proofs.open_listed.Tie as tie
+use Rattle.opens.proofs.open_listed.Statement.{statement}
+use Rattle.opens.proofs.open_listed.Tie as tie
 
 start-g1-requires : tie.Need-start-g1-requires
 start-g1-requires c κs = search needs
