@@ -26,7 +26,7 @@ pub enum Command {
 }
 
 // Whether a text begins with a word.
-pub fn begins(text: &[u8], word: &[u8]) -> bool
+fn begins(text: &[u8], word: &[u8]) -> bool
     ensures { λ r. ⌜ r ≡ Commands·begins (now (word .entry)) (now (text .entry)) ⌝ }
 {
     let mut i = 0;

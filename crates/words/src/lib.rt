@@ -143,7 +143,7 @@ fn read_digits(text: &[u8], from: usize, first: u64, most: u64, mark: u8) -> Num
 }
 
 // A number of at most `most`, up to its mark.
-pub fn read_number(text: &[u8], at: usize, most: u64, mark: u8) -> NumberRead
+fn read_number(text: &[u8], at: usize, most: u64, mark: u8) -> NumberRead
     requires { ⌜ at ≤ length (now text) ⌝ }
     requires { ⌜ 9 ≤ most ⌝ }
     ensures { λ r. ⌜ ofNumber (now (text .entry)) r ≡ readNumber most mark (drop at (now (text .entry))) ⌝ }
