@@ -4,11 +4,6 @@
 # First comes what the C side and the documents said, and then all that rt ci said: its last line, the verdict, is the last.
 set -eu
 
-fail() {
-    echo "tests/run.sh: $*" >&2
-    exit 1
-}
-
 cd "$(dirname "$0")/.."
 copy=$(mktemp -d)
 verdict=$copy/rt.log

@@ -10,6 +10,9 @@ use libc::STDOUT_FILENO;
 use sessions::KEPT;
 use sessions::State;
 
+// So many bytes of answers are written at once: any answer fits, and behind it as many bytes of short ones.
+const OUT: usize = 131_072;
+
 // What `help` is answered.
 fn help() -> [u8; 1400] {
     *b"open S P                    ok CH            a channel at place 0
@@ -133,7 +136,7 @@ fn finish(line: &mut [u8], state: State, work: &mut [u8], out: &mut [u8])
 fn answer_all() {
     let mut line = [0u8; KEPT];
     let mut work = [0u8; MOST_LENGTH];
-    let mut out = [0u8; 131072];
+    let mut out = [0u8; OUT];
     let mut state = sessions::begun();
     let mut turns = u64::MAX;
     while turns > 0 {
@@ -155,7 +158,7 @@ fn answer_all() {
     }
 }
 
-// Who types the lines is told where to begin, and who gives arguments, --help among them, what it does; then nothing is read.
+// Who gives arguments, --help among them, is told what it does, and nothing is read. Who types the lines is told where to begin.
 fn main() {
     if 1 < os::arg_count() {
         io::write_all(

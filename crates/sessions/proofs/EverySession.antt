@@ -11,6 +11,7 @@ use lib.Dec.{leb, eqb}
 use lib.ListN.{length, take, length-append}
 use lib.Seq.{take-all, take-append-le}
 use borrow.Author.Tests.{leb-true, leb-false, eqb-false, ne-eqb}
+use Rattle.texts.specs.Saying.{whole}
 use Rattle.texts.proofs.Saying.{Plain, kept-more, rest-append, replies-append}
 use Rattle.words.specs.declared.Last.{Last}
 use Rattle.commands.specs.Commands.{commandOf}
@@ -43,9 +44,9 @@ kept-command last l plain = ap (commandOf last) (kept-more 1024 l (10 ∷ [])) �
         ap (commandOf last) (take-all 1024 (l ++ (10 ∷ [])) short)
     by false e =
         let long : 1023 < length l = leb-false (length l) 1023 e in
-        let whole : take 1024 (l ++ (10 ∷ [])) ≡ take 1024 l = take-append-le 1024 l (10 ∷ []) (omega (arith, long)) in
+        let cut : take 1024 (l ++ (10 ∷ [])) ≡ take 1024 l = take-append-le 1024 l (10 ∷ []) (omega (arith, long)) in
         let begins : take 640 (l ++ (10 ∷ [])) ≡ take 640 l = take-append-le 640 l (10 ∷ []) (omega (arith, long)) in
-        late last (kept (l ++ (10 ∷ []))) (subst (λ (m : List ℕ). Plain (take 640 m)) (sym whole) (plain-take 640 (take 1024 l) (plain-take 1024 l plain)))
+        late last (kept (l ++ (10 ∷ []))) (subst (λ (m : List ℕ). Plain (take 640 m)) (sym cut) (plain-take 640 (take 1024 l) (plain-take 1024 l plain)))
         ∙ sym (late last (l ++ (10 ∷ [])) (subst Plain (sym begins) (plain-take 640 l plain)))
 
 kept-some : (k a : ℕ) (l : List ℕ) → length (take (suc k) (a ∷ l)) ≡ 0 → ⊥
@@ -105,10 +106,6 @@ module _ (help : List ℕ) where
   abbrev pub fedWith : Talk → List (List ℕ) → List ℕ
   fedWith t [] = lastAnswer help t
   fedWith t (chunk ∷ chunks) = replies help t chunk ++ fedWith (rest t chunk) chunks
-
-  abbrev pub whole : List (List ℕ) → List ℕ
-  whole [] = []
-  whole (chunk ∷ chunks) = chunk ++ whole chunks
 
   fed-on : (t : Talk) (chunks : List (List ℕ)) → fedWith t chunks ≡ saying t (whole chunks)
   fed-on t [] = refl

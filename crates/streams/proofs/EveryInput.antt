@@ -5,6 +5,7 @@
 use Prim.Native.Nat.{ℕ}
 use mathlib.Core.List.{List, [], _∷_, _++_, append-assoc, append-nil}
 use mathlib.Core.Path.{_≡_, refl, sym, ap, ap₂, _∙_}
+use Rattle.texts.specs.Saying.{whole}
 use Rattle.lines.specs.Lines.{lineReply}
 use Rattle.streams.specs.Stream.{next, said, rest, replies, lastReply, answers, kept}
 use Rattle.streams.proofs.Streams.{other-next, other-said, kept-said, kept-next, kept-twice}
@@ -54,10 +55,6 @@ in-order (line ∷ lines) last all plain =
 abbrev pub fedWith : List ℕ → List (List ℕ) → List ℕ
 fedWith held [] = lastReply held
 fedWith held (chunk ∷ chunks) = replies held chunk ++ fedWith (kept (rest held chunk)) chunks
-
-abbrev pub whole : List (List ℕ) → List ℕ
-whole [] = []
-whole (chunk ∷ chunks) = chunk ++ whole chunks
 
 -- the bytes kept stand for the line
 kept-replies : (line bs : List ℕ) → replies (kept line) bs ≡ replies line bs

@@ -11,3 +11,8 @@ restOf next s (b ∷ bs) = restOf next (next s b) bs
 abbrev pub repliesOf : {S : Type 0} → (S → ℕ → S) → (S → ℕ → List ℕ) → S → List ℕ → List ℕ
 repliesOf next said s [] = []
 repliesOf next said s (b ∷ bs) = said s b ++ repliesOf next said (next s b) bs
+
+-- an input that comes in chunks
+abbrev pub whole : List (List ℕ) → List ℕ
+whole [] = []
+whole (chunk ∷ chunks) = chunk ++ whole chunks
