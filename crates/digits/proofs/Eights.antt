@@ -1,0 +1,32 @@
+-- Eight digits of a number.
+--     spreads     the code's way to spread eight digits over eight bytes
+--     in-word     eight digits in the midst of a word
+-- Assumes nothing.
+use Prim.Native.Nat.{ℕ, zero, suc, _+_, _-_, _*_, _/_, _%_, _^_, _<_, _≤_}
+use mathlib.Core.Path.{_≡_, sym, ap, _∙_}
+use native.Mathlib.Omega.{arith}
+use lib.Bits.{bitAnd}
+use lib.Dec.{eqb, eqb→eq}
+use lib.Pow.{field, mod-mod-pow, shr-shr}
+use Rattle.registers.proofs.Below.{below, at}
+use Rattle.digits.specs.Digits.{digit}
+
+abbrev pub spreadOf : ℕ → ℕ
+spreadOf b = bitAnd ((bitAnd (b * 72340172838076673) 72624976668147840 + 9187201950435737471) / 128) 72340172838076673
+
+pub spreads : (b : ℕ) → b < 256 → (j : ℕ) → j < 8 → spreadOf b / 2 ^ (8 * j) % 256 ≡ digit 8 b j
+spreads b hb j hj =
+    eqb→eq _ _
+    (at 8 (λ j. eqb (spreadOf b / 2 ^ (8 * j) % 256) (digit 8 b j))
+    (at 256 (λ b. below 8 (λ j. eqb (spreadOf b / 2 ^ (8 * j) % 256) (digit 8 b j))) tt b hb) j hj)
+
+pub in-word : (word n j : ℕ) → n < 8 → j < 8 → digit 8 (word / 2 ^ (56 - n * 8) % 256) j ≡ digit 64 word (n * 8 + j)
+in-word word n j hn hj =
+    let low = 7 - j in
+    let bits : 8 ≡ (j + 1) + (7 - j) = omega (arith, hj) in
+    let places : (56 - n * 8) + (7 - j) ≡ 63 - (n * 8 + j) = omega (arith, hn, hj) in
+    let x = word / 2 ^ (56 - n * 8) in
+    ap (λ (k : ℕ). x % 2 ^ k / 2 ^ low % 2) bits
+    ∙ ap (λ (y : ℕ). y % 2) (field x (j + 1) low)
+    ∙ mod-mod-pow (x / 2 ^ low) j 1
+    ∙ ap (λ (y : ℕ). y % 2) (shr-shr word (56 - n * 8) low ∙ ap (λ (k : ℕ). word / 2 ^ k) places)

@@ -1,0 +1,4 @@
+-- Read in this order.
+pub mod Arrivals
+pub mod LawOfRuns
+pub mod Along
