@@ -20,7 +20,7 @@ pub const MOST_CHIPS: u64 = 65_536;
 // ---- C/A
 
 // Given the two stages of G2 that its PRN adds.
-fn write_ca(ch: Channel, stages: Stages, count: usize, out: &mut [u8]) -> Channel
+pub fn write_ca(ch: Channel, stages: Stages, count: usize, out: &mut [u8]) -> Channel
     requires { ⌜ Of signalCA ch ⌝ }
     requires { ⌜ stages ≡ stagesOf (ch .prn) ⌝ }
     requires { ⌜ count ≤ length (now out) ⌝ }
@@ -116,7 +116,7 @@ fn write_quiet(ch: Channel, quiet: usize, out: &mut [u8]) -> Channel
 }
 
 // Quiet runs, and single steps between them.
-fn write_p(ch: Channel, count: usize, out: &mut [u8]) -> Channel
+pub fn write_p(ch: Channel, count: usize, out: &mut [u8]) -> Channel
     requires { ⌜ Of signalP ch ⌝ }
     requires { ⌜ count ≤ length (now out) ⌝ }
     ensures { λ r. ⌜ (r ≡ advance count ch) × (now (out .exit) ≡ chips count ch ++ drop count (now (out .entry))) ⌝ }
@@ -139,7 +139,7 @@ fn write_p(ch: Channel, count: usize, out: &mut [u8]) -> Channel
 
 // ---- L2 CM and L2 CL, from their starts
 
-fn write_cm(ch: Channel, start: u32, count: usize, out: &mut [u8]) -> Channel
+pub fn write_cm(ch: Channel, start: u32, count: usize, out: &mut [u8]) -> Channel
     requires { ⌜ Of (λ prn. fromCM start) ch ⌝ }
     requires { ⌜ count ≤ length (now out) ⌝ }
     ensures { λ r. ⌜ (r ≡ advance count ch) × (now (out .exit) ≡ chips count ch ++ drop count (now (out .entry))) ⌝ }
@@ -154,7 +154,7 @@ fn write_cm(ch: Channel, start: u32, count: usize, out: &mut [u8]) -> Channel
     here
 }
 
-fn write_cl(ch: Channel, start: u32, count: usize, out: &mut [u8]) -> Channel
+pub fn write_cl(ch: Channel, start: u32, count: usize, out: &mut [u8]) -> Channel
     requires { ⌜ Of (λ prn. fromCL start) ch ⌝ }
     requires { ⌜ count ≤ length (now out) ⌝ }
     ensures { λ r. ⌜ (r ≡ advance count ch) × (now (out .exit) ≡ chips count ch ++ drop count (now (out .entry))) ⌝ }
@@ -171,7 +171,7 @@ fn write_cl(ch: Channel, start: u32, count: usize, out: &mut [u8]) -> Channel
 
 // ---- I5 and Q5, from XB's start
 
-fn write_l5(ch: Channel, start: u32, count: usize, out: &mut [u8]) -> Channel
+pub fn write_l5(ch: Channel, start: u32, count: usize, out: &mut [u8]) -> Channel
     requires { ⌜ Of (λ prn. fromL5 start) ch ⌝ }
     requires { ⌜ count ≤ length (now out) ⌝ }
     ensures { λ r. ⌜ (r ≡ advance count ch) × (now (out .exit) ≡ chips count ch ++ drop count (now (out .entry))) ⌝ }

@@ -26,7 +26,7 @@ use Rattle.machine.specs.declared.Mode.{Mode}
 use Rattle.machine.specs.declared.Mode.the-variants.{Running, Held}
 use Rattle.machine.specs.declared.Generator.{Generator}
 use Rattle.sequences.specs.Sequences.{wordIn, Tells}
-use Rattle.stretches.specs.Stretches.{stretchIn, stretch, ahead, all, wordOf, Within, Tabled}
+use Rattle.stretches.specs.Stretches.{stretchIn, stretch, aheadBy, all, wordOf, Within, Tabled}
 use Rattle.stretches.proofs.Arrivals.{RunsOn}
 
 -- ---- steps
@@ -35,9 +35,6 @@ use Rattle.stretches.proofs.Arrivals.{RunsOn}
 pub record Goes (k : Kind) (n : ℕ) (g : Generator) (f : ℕ → Generator) : Type 0 where
   pub starts : f 0 ≡ g
   pub steps : (e : Bool) (j : ℕ) → j < n → stepGenerator k e (f j) ≡ f (suc j)
-
-abbrev pub aheadBy : Kind → Generator → ℕ → Generator
-aheadBy k g j = ahead (times (k .shift) j (g .register)) j g
 
 module _ (k : Kind) (on : RunsOn k) where
   begins : (m : Mode) (r p c : ℕ)

@@ -2,3 +2,4 @@
 pub mod Arrivals
 pub mod LawOfRuns
 pub mod Along
+pub mod Tables

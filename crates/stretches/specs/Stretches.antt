@@ -5,6 +5,7 @@ use mathlib.Core.Path.{_≡_}
 use mathlib.Core.List.{List}
 use Rattle.registers.specs.Times.{times}
 use Rattle.registers.specs.Register.{stage}
+use Rattle.machine.specs.Generators.{Kind}
 use Rattle.machine.specs.declared.Mode.{Mode}
 use Rattle.machine.specs.declared.Mode.the-variants.{Running, Held}
 use Rattle.machine.specs.declared.Generator.{Generator}
@@ -41,6 +42,10 @@ ahead shifted n g =
       cycles = g .cycles;
       mode = aheadMode (g .mode) n;
     }
+
+-- with the shifts of a kind
+abbrev pub aheadBy : Kind → Generator → ℕ → Generator
+aheadBy k g n = ahead (times (k .shift) n (g .register)) n g
 
 -- ---- its chips as words
 

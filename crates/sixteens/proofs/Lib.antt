@@ -1,0 +1,2 @@
+pub mod ByDigits
+pub mod Turns

@@ -1,0 +1,109 @@
+-- A block of a run of P: the next chips of its generators, added up from words.
+--     first-within, second-within, third-within, fourth-within   where the words of the four generators are read
+--     block-tells    the digits of the sum are the chips
+--     block-line     the delay line after them
+-- Assumes nothing.
+use Prim.Native.Nat.{ℕ, zero, suc, _+_, _-_, _*_, _/_, _%_, _^_, _<_, _≤_}
+use mathlib.Core.Path.{_≡_, refl, sym, ap, _∙_, subst}
+use mathlib.Core.List.{List}
+use native.Mathlib.Omega.{arith}
+use lib.Bits.{bitXor}
+use lib.Dec.{lit≤}
+use lib.ListN.{length}
+use Rattle.registers.specs.Register.{stage, shiftX1A, shiftX1B, shiftX2A, shiftX2B}
+use Rattle.starts.specs.Starts.{startX1A, startX1B, startX2A, startX2B}
+use Rattle.machine.specs.Generators.{Kind}
+use Rattle.machine.specs.Signals.{x1a, x1b, x2a, x2b}
+use Rattle.machine.specs.declared.Generator.{Generator}
+use Rattle.machine.specs.declared.Channel.{Channel}
+use Rattle.sequences.specs.Sequences.{sequence, Tells}
+use Rattle.stretches.specs.Stretches.{stretch, aheadBy, Within, Tabled}
+use Rattle.stretches.proofs.LawOfRuns.{law-of-runs, room, within, sum-tells}
+use Rattle.stretches.proofs.Tables.{from-start, table-length}
+use Rattle.windows_p.specs.Runs.{delayedWord, Tables, Fits, Fitting, Run, wordAt, chipX2, lineBy, lineAlong, chipAlong}
+use Rattle.windows_p.proofs.DelayedWords.{line-is, delayed-tells, line-later, line-lt}
+
+-- ---- one generator of twelve stages, whose cycle ends at phase 4,091 or 4,092
+
+module _ (k : Kind) (seq : List ℕ) (is : seq ≡ sequence (k .shift) 12 65 (k .start)) (g : Generator) (n i : ℕ)
+    (some : 0 < n) (few : n ≤ 65536) (phase : g .phase < 65536) (last : k .last (g .cycles) ≤ 4092) (long : n ≤ stretch (k .last (g .cycles)) g)
+    (before : i ≤ n)
+    where
+  generator-within : Within g 0 i (length seq)
+  generator-within =
+      rw (is, table-length (k .shift) 12 65 (k .start))
+      (within g 0 (k .last (g .cycles)) n i 65 some long before (omega (arith, few, phase, before)) (omega (arith, last)))
+
+  generator-tells : Fits k g → Tells (wordAt g seq i) 64 (λ j. stage 12 (aheadBy k g (i + j) .register))
+  generator-tells fits =
+      let t : Tabled seq 0 12 (k .shift) (k .start) (k .last (g .cycles))
+      = rw is (from-start (k .shift) 12 65 (k .start) (k .last (g .cycles)) (omega (arith, last))) in
+      law-of-runs seq 0 12 k (k .last (g .cycles)) t g i fits
+      (λ m. omega (arith, room g (k .last (g .cycles)) n i some long before m))
+
+-- ---- the four
+
+abbrev chipX1 : Channel → ℕ → ℕ
+chipX1 ch j = (stage 12 (aheadBy x1a (ch .first) j .register) + stage 12 (aheadBy x1b (ch .second) j .register)) % 2
+
+module _ (a b c d : List ℕ) (t : Tables a b c d) (n i : ℕ) (ch : Channel) (run : Run n ch) (before : i ≤ n) where
+  pub first-within : Within (ch .first) 0 i (length a)
+  first-within =
+      generator-within x1a a (t .table-x1a) (ch .first) n i (run .some) (run .few) (run .first-phase) (lit≤ tt) (run .first-stretch) before
+
+  pub second-within : Within (ch .second) 0 i (length b)
+  second-within =
+      generator-within x1b b (t .table-x1b) (ch .second) n i (run .some) (run .few) (run .second-phase) (lit≤ tt) (run .second-stretch) before
+
+  pub third-within : Within (ch .third) 0 i (length c)
+  third-within =
+      generator-within x2a c (t .table-x2a) (ch .third) n i (run .some) (run .few) (run .third-phase) (lit≤ tt) (run .third-stretch) before
+
+  pub fourth-within : Within (ch .fourth) 0 i (length d)
+  fourth-within =
+      generator-within x2b d (t .table-x2b) (ch .fourth) n i (run .some) (run .few) (run .fourth-phase) (lit≤ tt) (run .fourth-stretch) before
+
+  -- the words of X1 and X2
+  abbrev pub wordX1 : ℕ
+  wordX1 = bitXor (wordAt (ch .first) a i) (wordAt (ch .second) b i)
+
+  abbrev pub wordX2 : ℕ
+  wordX2 = bitXor (wordAt (ch .third) c i) (wordAt (ch .fourth) d i)
+
+  module _ (fit : Fitting ch) where
+    x1-tells : Tells wordX1 64 (λ j. chipX1 ch (i + j))
+    x1-tells =
+        sum-tells 64 (wordAt (ch .first) a i) (wordAt (ch .second) b i) _ _
+        (generator-tells x1a a (t .table-x1a) (ch .first) n i (run .some) (run .few) (run .first-phase) (lit≤ tt) (run .first-stretch) before (fit .first-fits))
+        (generator-tells x1b b (t .table-x1b) (ch .second) n i (run .some) (run .few) (run .second-phase) (lit≤ tt) (run .second-stretch) before (fit .second-fits))
+
+    x2-tells : Tells wordX2 64 (λ j. chipX2 ch (i + j))
+    x2-tells =
+        sum-tells 64 (wordAt (ch .third) c i) (wordAt (ch .fourth) d i) _ _
+        (generator-tells x2a c (t .table-x2a) (ch .third) n i (run .some) (run .few) (run .third-phase) (lit≤ tt) (run .third-stretch) before (fit .third-fits))
+        (generator-tells x2b d (t .table-x2b) (ch .fourth) n i (run .some) (run .few) (run .fourth-phase) (lit≤ tt) (run .fourth-stretch) before (fit .fourth-fits))
+
+    module _ (x1 x2 line : ℕ) (x1-is : x1 ≡ wordX1) (x2-is : x2 ≡ wordX2) (x2-in : x2 < 2 ^ 64) (line-so-far : line ≡ lineAlong ch i) where
+      x2-word : Tells x2 64 (λ j. chipX2 ch (i + j))
+      x2-word = subst (λ (w : ℕ). Tells w 64 (λ j. chipX2 ch (i + j))) (sym x2-is) x2-tells
+
+      line-in : line < 2 ^ 37
+      line-in = rw line-so-far (line-lt (chipX2 ch) (ch .delay) i (run .line))
+
+      on : (j : ℕ) → lineBy (λ m. chipX2 ch (i + m)) line j ≡ lineAlong ch (i + j)
+      on j = rw line-so-far (line-later (chipX2 ch) (ch .delay) i j)
+
+      pub block-line : (k : ℕ) → k ≤ 64 → (line * 2 ^ k + x2 / 2 ^ (64 - k)) % 2 ^ 37 ≡ lineAlong ch (i + k)
+      block-line k h =
+          sym (line-is (λ m. chipX2 ch (i + m)) line x2 64 line-in x2-in (lit≤ tt) x2-word k h) ∙ on k
+
+      pub block-tells : (j : ℕ) → j < 64 → bitXor x1 (delayedWord line x2 (ch .prn)) / 2 ^ (63 - j) % 2 ≡ chipAlong ch (i + j)
+      block-tells j h =
+          sum-tells 64 x1 (delayedWord line x2 (ch .prn)) (λ m. chipX1 ch (i + m)) (λ m. stage (ch .prn) (lineBy (λ m. chipX2 ch (i + m)) line m))
+          (subst (λ (w : ℕ). Tells w 64 (λ m. chipX1 ch (i + m))) (sym x1-is) x1-tells)
+          (delayed-tells (λ m. chipX2 ch (i + m)) line x2 64 line-in x2-in (lit≤ tt) x2-word (ch .prn) (run .prn .first) (run .prn .last)) j h
+          ∙ ap (λ (b : ℕ). (chipX1 ch (i + j) + stage (ch .prn) b) % 2) (on j)
+          ∙ sums (stage 12 (aheadBy x1a (ch .first) (i + j) .register) + stage 12 (aheadBy x1b (ch .second) (i + j) .register)) (stage (ch .prn) (lineAlong ch (i + j)))
+        where
+          sums : (x y : ℕ) → (x % 2 + y) % 2 ≡ (x + y) % 2
+          sums x y = omega arith

@@ -1,0 +1,234 @@
+// Windows of P at memory speed: runs of chips in which no generator begins a cycle anew, is held or let go, added up from words of the generators'
+// tables, and single steps between them. A run needs each register to be the one of its phase, which is tested; other channels are stepped.
+ghost use mathlib.Core.Path.{_≡_};
+ghost use mathlib.Core.Bool.{true};
+ghost use mathlib.Core.List.{_++_};
+ghost use Prim.Native.Nat.{_+_, _-_, _*_, _/_, _%_, _<_, _≤_, _^_};
+ghost use lib.Bits.{bitXor};
+ghost use lib.ListN.{length, drop};
+ghost use Rattle.starts.specs.Starts.{Listed};
+ghost use Rattle.machine.specs.Signals.{signalP};
+ghost use Rattle.machine.specs.Machine.{advance, chips};
+ghost use Rattle.machine.specs.Ranged.{RangedAs};
+ghost use Rattle.digits.specs.Digits.{row};
+ghost use Rattle.stretches.specs.Stretches.{Within};
+ghost use Rattle.runs.specs.Inner.{Of};
+ghost use Rattle.windows_p.specs.Runs.{delayedWord, Tables, Fitting, Run, wordAt, lineAlong, chipAlong};
+use machine::Channel;
+use machine::Generator;
+
+// ---- X2, in the PRN's delay later
+
+// The 64 chips that P takes next of X2: the delay line's last bits, then X2's next chips.
+fn delayed(line: u64, x2: u64, prn: u32) -> u64
+    requires { ⌜ Listed 37 prn ⌝ }
+    ensures { λ r. ⌜ r ≡ delayedWord line x2 prn ⌝ }
+{
+    (line << (64 - prn)) | (x2 >> prn)
+}
+
+// The delay line n chips later, by X2's next chips.
+fn line_after(line: u64, x2: u64, n: u32) -> u64
+    requires { ⌜ 1 ≤ n ⌝ }
+    requires { ⌜ n < 64 ⌝ }
+    ensures { λ r. ⌜ r ≡ (line * 2 ^ n + x2 / 2 ^ (64 - n)) % 2 ^ 37 ⌝ }
+{
+    let kept = (line << n) % machine::LINE_LIMIT;
+    let taken = (x2 >> (64 - n)) % machine::LINE_LIMIT;
+    (kept + taken) % machine::LINE_LIMIT
+}
+
+// ---- a run
+
+// Two generators' next 64 chips from n steps on, added.
+fn both(a: Generator, ta: &[u64], b: Generator, tb: &[u64], n: usize) -> u64
+    requires { ⌜ Within a 0 n (length (now ta)) ⌝ }
+    requires { ⌜ Within b 0 n (length (now tb)) ⌝ }
+    ensures { λ r. ⌜ r ≡ bitXor (wordAt a (now (ta .entry)) n) (wordAt b (now (tb .entry)) n) ⌝ }
+{
+    let first = stretches::word_of(a, 12, ta, 0, n);
+    let second = stretches::word_of(b, 12, tb, 0, n);
+    first ^ second
+}
+
+fn least(a: usize, b: usize) -> usize
+    ensures { λ n. ⌜ (n ≤ a) × ((n ≤ b) × (0 < a → 0 < b → 0 < n)) ⌝ }
+{
+    if a < b { a } else { b }
+}
+
+// The chips that are written at once: seven eights, fewer than a word has.
+const BLOCK: usize = 56;
+
+// Writes the chips of a run, and gives the delay line after it.
+fn write_run(
+    ch: Channel,
+    n: usize,
+    x1a: &[u64],
+    x1b: &[u64],
+    x2a: &[u64],
+    x2b: &[u64],
+    out: &mut [u8],
+) -> u64
+    requires { ⌜ Tables (now x1a) (now x1b) (now x2a) (now x2b) ⌝ }
+    requires { ⌜ Fitting ch ⌝ }
+    requires { ⌜ Run n ch ⌝ }
+    requires { ⌜ n ≤ length (now out) ⌝ }
+    ensures { λ r. ⌜ (r ≡ lineAlong ch n) × (now (out .exit) ≡ row (chipAlong ch) n ++ drop n (now (out .entry))) ⌝ }
+{
+    let mut line = ch.delay;
+    let mut i: usize = 0;
+    while i < n {
+        let k = least(n - i, BLOCK) as u32;
+        let x1 = both(ch.first, x1a, ch.second, x1b, i);
+        let x2 = both(ch.third, x2a, ch.fourth, x2b, i);
+        digits::write_word(x1 ^ delayed(line, x2, ch.prn), k, &mut out[i..]);
+        line = line_after(line, x2, k);
+        i += k as usize;
+    }
+    line
+}
+
+// Writes the chips of a run, and gives the channel after it.
+fn go_along(
+    ch: Channel,
+    n: usize,
+    x1a: &[u64],
+    x1b: &[u64],
+    x2a: &[u64],
+    x2b: &[u64],
+    out: &mut [u8],
+) -> Channel
+    requires { ⌜ Of signalP ch ⌝ }
+    requires { ⌜ Tables (now x1a) (now x1b) (now x2a) (now x2b) ⌝ }
+    requires { ⌜ Fitting ch ⌝ }
+    requires { ⌜ Run n ch ⌝ }
+    requires { ⌜ n ≤ length (now out) ⌝ }
+    ensures { λ r. ⌜ (r ≡ advance n ch) × (now (out .exit) ≡ chips n ch ++ drop n (now (out .entry))) ⌝ }
+{
+    let delay = write_run(ch, n, x1a, x1b, x2a, x2b, out);
+    Channel {
+        signal: ch.signal,
+        prn: ch.prn,
+        place: ch.place + n as u64,
+        epoch: ch.epoch,
+        delay,
+        first: stretches::after(ch.first, x1a, 0, 12, n),
+        second: stretches::after(ch.second, x1b, 0, 12, n),
+        third: stretches::after(ch.third, x2a, 0, 12, n),
+        fourth: stretches::after(ch.fourth, x2b, 0, 12, n),
+    }
+}
+
+// ---- where runs are
+
+// The steps of the run that a channel is in, at most `most`: none at the end of a cycle or of a hold.
+fn run_of(ch: Channel, most: usize) -> usize
+    requires { ⌜ Of signalP ch ⌝ }
+    requires { ⌜ most ≤ 65536 ⌝ }
+    ensures { λ n. ⌜ (n ≤ most) × (0 < n → Run n ch) ⌝ }
+{
+    let first = stretches::stretch_of(ch.first, machine::LAST_X1A) as usize;
+    let second = stretches::stretch_of(ch.second, machine::LAST_X1B) as usize;
+    let third = stretches::stretch_of(ch.third, machine::LAST_X2A) as usize;
+    let fourth = stretches::stretch_of(ch.fourth, machine::LAST_X2B) as usize;
+    let week = (machine::WEEK_P - 1 - ch.place) as usize;
+    let x1 = least(first, second);
+    let x2 = least(third, fourth);
+    least(least(x1, x2), least(week, most))
+}
+
+// Whether each register is the one of its phase.
+fn fitting(ch: Channel, x1a: &[u64], x1b: &[u64], x2a: &[u64], x2b: &[u64]) -> bool
+    requires { ⌜ RangedAs (signalP (ch .prn)) ch ⌝ }
+    requires { ⌜ Tables (now x1a) (now x1b) (now x2a) (now x2b) ⌝ }
+    ensures { λ r. ⌜ (r ≡ true → Fitting ch) ⌝ }
+{
+    let first = stretches::fits(ch.first, x1a, 0, 12);
+    let second = stretches::fits(ch.second, x1b, 0, 12);
+    let third = stretches::fits(ch.third, x2a, 0, 12);
+    let fourth = stretches::fits(ch.fourth, x2b, 0, 12);
+    first & second & third & fourth
+}
+
+// A run that is shorter than this is stepped.
+const SHORT_RUN: usize = 8;
+
+// The steps of the run that is taken from the tables here: none where it is short, or a register is not the one of its phase.
+fn run_by_tables(
+    ch: Channel,
+    most: usize,
+    x1a: &[u64],
+    x1b: &[u64],
+    x2a: &[u64],
+    x2b: &[u64],
+) -> usize
+    requires { ⌜ Of signalP ch ⌝ }
+    requires { ⌜ Tables (now x1a) (now x1b) (now x2a) (now x2b) ⌝ }
+    requires { ⌜ most ≤ 65536 ⌝ }
+    ensures { λ n. ⌜ (n ≤ most) × ((0 < n → Run n ch) × (0 < n → Fitting ch)) ⌝ }
+{
+    let n = run_of(ch, most);
+    if n < SHORT_RUN {
+        return 0;
+    }
+    if fitting(ch, x1a, x1b, x2a, x2b) {
+        n
+    } else {
+        0
+    }
+}
+
+// ---- the window
+
+// A window that is shorter than this is stepped: the tables are not worth while.
+const SHORT_WINDOW: usize = 48;
+
+// Runs, and single steps between them.
+fn write_by_runs(
+    ch: Channel,
+    count: usize,
+    x1a: &[u64],
+    x1b: &[u64],
+    x2a: &[u64],
+    x2b: &[u64],
+    out: &mut [u8],
+) -> Channel
+    requires { ⌜ Of signalP ch ⌝ }
+    requires { ⌜ Tables (now x1a) (now x1b) (now x2a) (now x2b) ⌝ }
+    requires { ⌜ count ≤ length (now out) ⌝ }
+    requires { ⌜ count ≤ 65536 ⌝ }
+    ensures { λ r. ⌜ (r ≡ advance count ch) × (now (out .exit) ≡ chips count ch ++ drop count (now (out .entry))) ⌝ }
+{
+    let mut here = ch;
+    let mut written: usize = 0;
+    while written < count {
+        let n = run_by_tables(here, count - written, x1a, x1b, x2a, x2b);
+        if 0 < n {
+            here = go_along(here, n, x1a, x1b, x2a, x2b, &mut out[written..]);
+            written += n;
+        } else {
+            out[written] = steps::chip_p(here);
+            here = steps::step_p(here);
+            written += 1;
+        }
+    }
+    here
+}
+
+// Writes the chips of `count` steps from a channel of P in range, and gives the channel after them.
+pub fn write_p(ch: Channel, count: usize, out: &mut [u8]) -> Channel
+    requires { ⌜ Of signalP ch ⌝ }
+    requires { ⌜ count ≤ length (now out) ⌝ }
+    requires { ⌜ count ≤ 65536 ⌝ }
+    ensures { λ r. ⌜ (r ≡ advance count ch) × (now (out .exit) ≡ chips count ch ++ drop count (now (out .entry))) ⌝ }
+{
+    if count < SHORT_WINDOW {
+        return runs::write_p(ch, count, out);
+    }
+    let x1a = sequences::x1a();
+    let x1b = sequences::x1b();
+    let x2a = sequences::x2a();
+    let x2b = sequences::x2b();
+    write_by_runs(ch, count, &x1a, &x1b, &x2a, &x2b, out)
+}
