@@ -1,7 +1,7 @@
 # `make run` does the main job, `make test` proves and tests everything. `make lib` writes the archive for C, `make codes` the line program, `make console`
-# the console.
+# the console. `make bench` times the archive against plain C.
 
-.PHONY: run codes console lib test
+.PHONY: run codes console lib bench test
 
 archive := target/staticlib/libgps_chips.a
 header := include/gps_chips.h
@@ -36,6 +36,14 @@ lib:
 	@echo 'archive: $(archive)'
 	@echo 'header:  $(header)'
 	@echo 'link:    cc prog.c -Iinclude $(archive)'
+
+# Compares the archive with plain C that makes the same chips, byte by byte, then times both, in some 20 seconds. Best with nothing else running.
+bench: lib
+	$(call need,$(firstword $(CC)),a C compiler ($(CC)))
+	@mkdir -p target/bench
+	@$(CC) -O3 -std=c99 -D_POSIX_C_SOURCE=199309L -Wall -Wextra -Werror -Iinclude -Itests/host bench/*.c tests/host/reference.c $(archive) \
+		-o target/bench/bench
+	@target/bench/bench tests/tables
 
 # From nothing: the C side, the documents and the standards' tables; every proof, every wrong answer that has to be refused, every program.
 # The last line is rt's verdict, "N passed, 0 failed".

@@ -1,5 +1,6 @@
 -- Rows of numbers, and slices that are filled from the front.
 --     row-length   a row of n has n numbers
+--     row-at       a number of it
 --     row-same     two rows of the same numbers
 --     row-then     a row, and more behind it
 --     put-back     what a write to the rest of a slice leaves in the whole
@@ -12,17 +13,31 @@
 use Prim.Native.Nat.{ℕ, zero, suc, _+_, _-_, _<_, _≤_, zero-le}
 use mathlib.Core.Path.{_≡_, refl, sym, ap, ap₂, _∙_}
 use mathlib.Core.List.{List, [], _∷_, _++_, append-nil, append-assoc}
-use native.Mathlib.Nat.{add-zero, add-suc}
+use mathlib.Core.Logic.{⊎-elim}
+use native.Mathlib.Nat.{add-zero, add-suc, eq-or-lt-of-le, le-of-suc-le-suc}
 use native.Mathlib.Numerals.{add-one}
 use native.Mathlib.Omega.{arith}
-use lib.ListN.{length, take, drop, set, length-drop, length-append, drop-of-length-le}
-use lib.Seq.{set-split, take-all, take-at, drop-at, drop-drop}
+use lib.ListN.{length, getD, take, drop, set, length-drop, length-append, drop-of-length-le}
+use lib.Seq.{getD-at, getD-take, set-split, take-all, take-at, drop-at, drop-drop}
 use Rattle.digits.specs.Digits.{row}
 
 pub row-length : (x : ℕ → ℕ) (n : ℕ) → length (row x n) ≡ n
 unfolding row
 row-length x zero = refl
 row-length x (suc n) = length-append (row x n) (x n ∷ []) ∙ ap (λ (k : ℕ). k + 1) (row-length x n) ∙ add-one n
+
+-- a number of a row
+pub row-at : (x : ℕ → ℕ) (n i : ℕ) → i < n → getD (row x n) i 0 ≡ x i
+unfolding row
+row-at x zero i h = absurd (omega (arith, h))
+row-at x (suc n) i h =
+    ⊎-elim
+    (λ (e : i ≡ n). ap (λ (k : ℕ). getD (row x n ++ (x n ∷ [])) k 0) e ∙ getD-at (row x n) (x n) [] 0 n (row-length x n) ∙ ap x (sym e))
+    (λ (l : i < n).
+    sym (getD-take n (row x n ++ (x n ∷ [])) i 0 l)
+    ∙ ap (λ (front : List ℕ). getD front i 0) (take-at (row x n) (x n ∷ []) n (row-length x n))
+    ∙ row-at x n i l)
+    (eq-or-lt-of-le (le-of-suc-le-suc h))
 
 pub row-same : (x y : ℕ → ℕ) (n : ℕ) → ((j : ℕ) → j < n → x j ≡ y j) → row x n ≡ row y n
 unfolding row

@@ -14,7 +14,7 @@ use borrow.Author.Tests.{le-leb, lt-leb}
 use Rattle.machine.specs.Machine.{advance, chips, inRange}
 use Rattle.machine.specs.declared.Channel.{Channel}
 use Rattle.machine.proofs.Chips.{chips-length}
-use Rattle.runs.proofs.ChipsSoFar.{put-back}
+use Rattle.digits.proofs.Rows.{put-back}
 use Rattle.engine.specs.Replies.{mostChips, writtenWith, unwrittenWith, written, windowReply}
 
 module _ (ch : Channel) (count : ℕ) (buffer : List ℕ) (at : ℕ) where

@@ -97,7 +97,7 @@ pub fn window(ch: Channel, count: u64, buffer: &mut [u8], at: u64) -> Windowed
     if !ranges::in_range(ch) {
         return Windowed::OutOfRange(ch);
     }
-    if runs::MOST_CHIPS < count {
+    if windows::MOST_CHIPS < count {
         return Windowed::TooMany(ch);
     }
     let length = buffer.len() as u64;
@@ -107,6 +107,6 @@ pub fn window(ch: Channel, count: u64, buffer: &mut [u8], at: u64) -> Windowed
     if length - at < count {
         return Windowed::NoRoom(ch);
     }
-    let next = runs::write_chips(ch, count as usize, &mut buffer[at as usize..]);
+    let next = windows::write_chips(ch, count as usize, &mut buffer[at as usize..]);
     Windowed::Written(next)
 }

@@ -16,7 +16,7 @@ fn refusal_of(signal: u64, prn: u64, place: u64, bytes: u64) -> u32
     if ranges::week_of(signal as u32) <= place {
         return 3;
     }
-    if runs::MOST_CHIPS < bytes {
+    if windows::MOST_CHIPS < bytes {
         return 5;
     }
     0
@@ -36,6 +36,6 @@ pub extern "C" fn gps_chips(signal: u64, prn: u64, place: u64, buffer: &mut [u8]
     }
     let landed = seeks::land(signal as u32, prn as u32, place);
     let there = landed.channel;
-    runs::write_chips(there, buffer.len(), buffer);
+    windows::write_chips(there, buffer.len(), buffer);
     0
 }

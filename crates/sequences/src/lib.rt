@@ -9,16 +9,17 @@ ghost use Rattle.sequences.specs.Sequences.{sequence, wordIn};
 
 mod tables;
 
-// ---- a table for each register: the chips of a cycle, and those that a word from its last phase has beyond it
+// ---- a table for each register: the chips of a cycle, and those that a word from its last phase has beyond it. G1 and G2, which come round by
+// themselves, have two cycles.
 
-pub fn g1() -> [u64; 18]
-    ensures { λ r. ⌜ r ≡ sequence shiftG1 10 18 startG1 ⌝ }
+pub fn g1() -> [u64; 34]
+    ensures { λ r. ⌜ r ≡ sequence shiftG1 10 34 startG1 ⌝ }
 {
     tables::G1
 }
 
-pub fn g2() -> [u64; 18]
-    ensures { λ r. ⌜ r ≡ sequence shiftG2 10 18 startG2 ⌝ }
+pub fn g2() -> [u64; 34]
+    ensures { λ r. ⌜ r ≡ sequence shiftG2 10 34 startG2 ⌝ }
 {
     tables::G2
 }
@@ -53,9 +54,9 @@ pub fn xa() -> [u64; 129]
     tables::XA
 }
 
-// XB from all ones: the start of each PRN is an advance from there.
-pub fn xb() -> [u64; 129]
-    ensures { λ r. ⌜ r ≡ sequence shiftXB 13 129 8191 ⌝ }
+// XB from all ones: the start of each PRN is an advance from there, so that two cycles are needed.
+pub fn xb() -> [u64; 257]
+    ensures { λ r. ⌜ r ≡ sequence shiftXB 13 257 8191 ⌝ }
 {
     tables::XB
 }

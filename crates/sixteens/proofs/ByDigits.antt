@@ -24,7 +24,7 @@ use Rattle.registers.proofs.Shifts.{l2, stage-lt, stage-linear, times-keeps}
 use Rattle.sequences.specs.Sequences.{given}
 use Rattle.sequences.proofs.Words.{given-lt, given-first, given-digit}
 use Rattle.digits.specs.Digits.{row, digit}
-use Rattle.digits.proofs.Rows.{row-length}
+use Rattle.digits.proofs.Rows.{row-length, row-at}
 use Rattle.sixteens.specs.Sixteens.{sixteenOf, entryOf, tableL2}
 
 -- ---- what is given is linear
@@ -91,18 +91,6 @@ digits-off r j k h =
     ∙ sum (x * 2 ^ k) y (lt-of-lt-of-le (shl-lt j k x-lt) (pow-mono h)) (lt-of-lt-of-le y-lt (pow-mono low-in))
 
 -- ---- the table
-
-row-at : (x : ℕ → ℕ) (n i : ℕ) → i < n → getD (row x n) i 0 ≡ x i
-unfolding row
-row-at x zero i h = absurd (omega (arith, h))
-row-at x (suc n) i h =
-    ⊎-elim
-    (λ (e : i ≡ n). ap (λ (k : ℕ). getD (row x n ++ (x n ∷ [])) k 0) e ∙ getD-at (row x n) (x n) [] 0 n (row-length x n) ∙ ap x (sym e))
-    (λ (l : i < n).
-    sym (getD-take n (row x n ++ (x n ∷ [])) i 0 l)
-    ∙ ap (λ (front : List ℕ). getD front i 0) (take-at (row x n) (x n ∷ []) n (row-length x n))
-    ∙ row-at x n i l)
-    (eq-or-lt-of-le (le-of-suc-le-suc h))
 
 pub has-64 : (t : List ℕ) → t ≡ tableL2 → length t ≡ 64
 unfolding tableL2

@@ -6,7 +6,7 @@ ghost use Prim.Native.Nat.{_*_, _%_, _<_, _≤_, _^_};
 ghost use lib.ListN.{length, drop};
 ghost use Rattle.registers.specs.Register.{shiftL2};
 ghost use Rattle.registers.specs.Times.{times};
-ghost use Rattle.digits.specs.Digits.{row};
+ghost use Rattle.digits.specs.Digits.{row, bytesOf};
 ghost use Rattle.sixteens.specs.Sixteens.{sixteenOf, tableL2};
 
 mod tables;
@@ -35,8 +35,15 @@ fn sixteen(table: &[u64], register: u32) -> u64
 }
 
 // Writes the next chips of a register, `sixteens` times sixteen, and hands back the register after them.
-pub fn write_sixteens(table: &[u64], register: u32, sixteens: usize, out: &mut [u8]) -> u32
+pub fn write_sixteens(
+    table: &[u64],
+    spread: &[u64],
+    register: u32,
+    sixteens: usize,
+    out: &mut [u8],
+) -> u32
     requires { ⌜ now table ≡ tableL2 ⌝ }
+    requires { ⌜ now spread ≡ row bytesOf 256 ⌝ }
     requires { ⌜ register < 2 ^ 27 ⌝ }
     requires { ⌜ sixteens * 16 ≤ length (now out) ⌝ }
     ensures { λ r. ⌜ (r ≡ times shiftL2 (sixteens * 16) register)
@@ -48,7 +55,7 @@ pub fn write_sixteens(table: &[u64], register: u32, sixteens: usize, out: &mut [
         let given = sixteen(table, here);
         let at = n * 16;
         // a word is written from its highest digit on, so the chips are moved to its top
-        digits::write_word((given >> 32) << 48, 16, &mut out[at..]);
+        digits::write_word((given >> 32) << 48, 16, spread, &mut out[at..]);
         here = (given % 0x1_0000_0000) as u32;
         n += 1;
     }

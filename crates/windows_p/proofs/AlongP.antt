@@ -26,7 +26,7 @@ use Rattle.stretches.proofs.Arrivals.{x1b-runs-on, x2a-runs-on, x2b-runs-on}
 use Rattle.stretches.proofs.LawOfRuns.{goes}
 use Rattle.stretches.proofs.Along.{Along, at, at-is, chips-are}
 use Rattle.stretches.proofs.Tables.{table-length, register-there, after-is, fits-is}
-use Rattle.runs.specs.Inner.{Of}
+use Rattle.stepped.specs.Inner.{Of}
 use Rattle.windows_p.specs.Runs.{Tables, Fits, Fitting, Run, lineBy, lineAlong, chipAlong}
 
 module _ (n : ℕ) (ch : Channel) (run : Run n ch) where

@@ -10,9 +10,9 @@ ghost use Rattle.starts.specs.Starts.{Listed};
 ghost use Rattle.machine.specs.Signals.{signalP};
 ghost use Rattle.machine.specs.Machine.{advance, chips};
 ghost use Rattle.machine.specs.Ranged.{RangedAs};
-ghost use Rattle.digits.specs.Digits.{row};
+ghost use Rattle.digits.specs.Digits.{row, bytesOf};
 ghost use Rattle.stretches.specs.Stretches.{Within};
-ghost use Rattle.runs.specs.Inner.{Of};
+ghost use Rattle.stepped.specs.Inner.{Of};
 ghost use Rattle.windows_p.specs.Runs.{delayedWord, Tables, Fitting, Run, wordAt, lineAlong, chipAlong};
 use machine::Channel;
 use machine::Generator;
@@ -68,9 +68,11 @@ fn write_run(
     x1b: &[u64],
     x2a: &[u64],
     x2b: &[u64],
+    spread: &[u64],
     out: &mut [u8],
 ) -> u64
     requires { ⌜ Tables (now x1a) (now x1b) (now x2a) (now x2b) ⌝ }
+    requires { ⌜ now spread ≡ row bytesOf 256 ⌝ }
     requires { ⌜ Fitting ch ⌝ }
     requires { ⌜ Run n ch ⌝ }
     requires { ⌜ n ≤ length (now out) ⌝ }
@@ -82,7 +84,12 @@ fn write_run(
         let k = least(n - i, BLOCK) as u32;
         let x1 = both(ch.first, x1a, ch.second, x1b, i);
         let x2 = both(ch.third, x2a, ch.fourth, x2b, i);
-        digits::write_word(x1 ^ delayed(line, x2, ch.prn), k, &mut out[i..]);
+        digits::write_word(
+            x1 ^ delayed(line, x2, ch.prn),
+            k,
+            spread,
+            &mut out[i..],
+        );
         line = line_after(line, x2, k);
         i += k as usize;
     }
@@ -97,16 +104,18 @@ fn go_along(
     x1b: &[u64],
     x2a: &[u64],
     x2b: &[u64],
+    spread: &[u64],
     out: &mut [u8],
 ) -> Channel
     requires { ⌜ Of signalP ch ⌝ }
     requires { ⌜ Tables (now x1a) (now x1b) (now x2a) (now x2b) ⌝ }
+    requires { ⌜ now spread ≡ row bytesOf 256 ⌝ }
     requires { ⌜ Fitting ch ⌝ }
     requires { ⌜ Run n ch ⌝ }
     requires { ⌜ n ≤ length (now out) ⌝ }
     ensures { λ r. ⌜ (r ≡ advance n ch) × (now (out .exit) ≡ chips n ch ++ drop n (now (out .entry))) ⌝ }
 {
-    let delay = write_run(ch, n, x1a, x1b, x2a, x2b, out);
+    let delay = write_run(ch, n, x1a, x1b, x2a, x2b, spread, out);
     Channel {
         signal: ch.signal,
         prn: ch.prn,
@@ -181,9 +190,6 @@ fn run_by_tables(
 
 // ---- the window
 
-// A window that is shorter than this is stepped: the tables are not worth while.
-const SHORT_WINDOW: usize = 48;
-
 // Runs, and single steps between them.
 fn write_by_runs(
     ch: Channel,
@@ -192,10 +198,12 @@ fn write_by_runs(
     x1b: &[u64],
     x2a: &[u64],
     x2b: &[u64],
+    spread: &[u64],
     out: &mut [u8],
 ) -> Channel
     requires { ⌜ Of signalP ch ⌝ }
     requires { ⌜ Tables (now x1a) (now x1b) (now x2a) (now x2b) ⌝ }
+    requires { ⌜ now spread ≡ row bytesOf 256 ⌝ }
     requires { ⌜ count ≤ length (now out) ⌝ }
     requires { ⌜ count ≤ 65536 ⌝ }
     ensures { λ r. ⌜ (r ≡ advance count ch) × (now (out .exit) ≡ chips count ch ++ drop count (now (out .entry))) ⌝ }
@@ -205,7 +213,16 @@ fn write_by_runs(
     while written < count {
         let n = run_by_tables(here, count - written, x1a, x1b, x2a, x2b);
         if 0 < n {
-            here = go_along(here, n, x1a, x1b, x2a, x2b, &mut out[written..]);
+            here = go_along(
+                here,
+                n,
+                x1a,
+                x1b,
+                x2a,
+                x2b,
+                spread,
+                &mut out[written..],
+            );
             written += n;
         } else {
             out[written] = steps::chip_p(here);
@@ -216,19 +233,17 @@ fn write_by_runs(
     here
 }
 
-// Writes the chips of `count` steps from a channel of P in range, and gives the channel after them.
-pub fn write_p(ch: Channel, count: usize, out: &mut [u8]) -> Channel
+// P.
+pub fn write_p(ch: Channel, count: usize, spread: &[u64], out: &mut [u8]) -> Channel
     requires { ⌜ Of signalP ch ⌝ }
+    requires { ⌜ now spread ≡ row bytesOf 256 ⌝ }
     requires { ⌜ count ≤ length (now out) ⌝ }
     requires { ⌜ count ≤ 65536 ⌝ }
     ensures { λ r. ⌜ (r ≡ advance count ch) × (now (out .exit) ≡ chips count ch ++ drop count (now (out .entry))) ⌝ }
 {
-    if count < SHORT_WINDOW {
-        return runs::write_p(ch, count, out);
-    }
     let x1a = sequences::x1a();
     let x1b = sequences::x1b();
     let x2a = sequences::x2a();
     let x2b = sequences::x2b();
-    write_by_runs(ch, count, &x1a, &x1b, &x2a, &x2b, out)
+    write_by_runs(ch, count, &x1a, &x1b, &x2a, &x2b, spread, out)
 }

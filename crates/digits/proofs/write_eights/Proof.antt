@@ -12,16 +12,16 @@ use Rattle.digits.proofs.write_eights.Statement.{statement}
 use Rattle.digits.proofs.write_eights.Tie as tie
 
 abbrev Inv-loop : tie.InvT-loop
-Inv-loop word eights out₀ n₀ out n =
+Inv-loop word eights spread out₀ n₀ out n =
  Filled (digit 64 word) (eights * 8) out₀ out (n * 8)
 
 abbrev μ-loop : tie.MeasureT-loop
-μ-loop word eights out₀ n₀ out n =
+μ-loop word eights spread out₀ n₀ out n =
  eights - n
 
 loop-holds : tie.Need-loop-holds Inv-loop μ-loop
 loop-holds c =
- begun _ _ _ ((c .before .pre) .1)
+ begun _ _ _ ((c .before .before .pre) .1 .1)
 
 mul-eight : tie.Need-mul-eight Inv-loop μ-loop
 mul-eight c = omega arith
@@ -53,7 +53,7 @@ part-write-eight-end c = search needs
 
 write-eight-requires : tie.Need-write-eight-requires Inv-loop μ-loop
 write-eight-requires c κs =
- (omega arith, simp (length-take, length-drop) (omega arith))
+ (omega arith, ((c .before .before .before .before .before .pre) .1 .0, simp (length-take, length-drop) (omega arith)))
 
 add-n : tie.Need-add-n Inv-loop μ-loop
 add-n c = omega arith
@@ -64,7 +64,7 @@ loop-less c = omega arith
 loop-again : tie.Need-loop-again Inv-loop μ-loop
 loop-again c =
     let l = (c .before .before .before .before .before .loop) in
-    let a = (c .before .before .before .before .before .before .before .args) in
+    let a = (c .before .before .before .before .before .before .before .before .args) in
     let up : l .n * 8 + 8 ≡ (l .n + 1) * 8 = omega arith in
     subst (Filled (digit 64 (a .word)) (a .eights * 8) (a .out .now) _) up
     (part-more _ _ _ (l .out) _ (l .n * 8) 8 _ (l .inv) (omega arith) (λ j h. in-word (a .word) (l .n) j (omega arith) h) ((c .before .before .write-eight) .ensures))

@@ -1,11 +1,9 @@
 -- `digits::write_word` meets its contract.
 -- Assumes nothing.
-use mathlib.Core.Path.{refl}
--- `digits::write_word` meets its contract.
--- Assumes nothing.
 use Rattle.digits.proofs.Rows.{Filled, go-on, one-more, ended-on}
 use Rattle.digits.specs.Digits.{digit}
 use lib.ListN.{length}
+use mathlib.Core.Path.{refl}
 use Prim.Native.Nat.{_-_, _*_, _/_}
 use native.Mathlib.Omega.{arith}
 use borrow.Author.Needs.{needs}
@@ -13,11 +11,11 @@ use Rattle.digits.proofs.write_word.Statement.{statement}
 use Rattle.digits.proofs.write_word.Tie as tie
 
 abbrev Inv-loop : tie.InvT-loop
-Inv-loop word count out₀ eights i₀ out i =
+Inv-loop word count spread out₀ eights i₀ out i =
  Filled (digit 64 word) count out₀ out i
 
 abbrev μ-loop : tie.MeasureT-loop
-μ-loop word count out₀ eights i₀ out i =
+μ-loop word count spread out₀ eights i₀ out i =
  count - i
 
 write-eights-requires : tie.Need-write-eights-requires Inv-loop μ-loop
@@ -28,7 +26,7 @@ mul-i c = omega arith
 
 loop-holds : tie.Need-loop-holds Inv-loop μ-loop
 loop-holds c =
- go-on _ _ _ _ _ (omega arith) ((c .before .before .before .before .before .pre) .1) ((c .before .before .write-eights) .ensures)
+ go-on _ _ _ _ _ (omega arith) ((c .before .before .before .before .before .before .pre) .1 .1) ((c .before .before .write-eights) .ensures)
 
 sub-out : tie.Need-sub-out Inv-loop μ-loop
 sub-out c = omega arith

@@ -9,17 +9,17 @@ use Rattle.sixteens.proofs.write_sixteens.Statement.{statement}
 use Rattle.sixteens.proofs.write_sixteens.Tie as tie
 
 abbrev Inv-loop : tie.InvT-loop
-Inv-loop table register sixteens out₀ here₀ n₀ out here n =
+Inv-loop table spread register sixteens out₀ here₀ n₀ out here n =
     Turned register sixteens out₀ out here n
 
 abbrev μ-loop : tie.MeasureT-loop
-μ-loop table register sixteens out₀ here₀ n₀ out here n =
+μ-loop table spread register sixteens out₀ here₀ n₀ out here n =
     sixteens - n
 
 loop-holds : tie.Need-loop-holds Inv-loop μ-loop
 loop-holds c =
-    let p = c .before .before .pre in
-    begin _ _ _ (p .1 .0) (p .1 .1)
+    let p = c .before .before .before .pre in
+    begin _ _ _ (p .1 .1 .0) (p .1 .1 .1)
 
 sixteen-requires : tie.Need-sixteen-requires Inv-loop μ-loop
 sixteen-requires c κs = search needs
@@ -38,7 +38,7 @@ part-write-word-end c = search needs
 
 write-word-requires : tie.Need-write-word-requires Inv-loop μ-loop
 write-word-requires c κs =
-    (omega arith, simp (length-take, length-drop) (omega arith))
+    (omega arith, (c .before .before .before .before .before .before .before .pre .1 .0, simp (length-take, length-drop) (omega arith)))
 
 cast-here : tie.Need-cast-here Inv-loop μ-loop
 cast-here c = omega arith

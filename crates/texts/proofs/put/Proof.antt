@@ -6,7 +6,7 @@ use mathlib.Core.List.{List, _++_}
 use lib.ListN.{length, take, drop}
 use lib.Seq.{take-length}
 use borrow.Author.Needs.{needs}
-use Rattle.runs.proofs.ChipsSoFar.{put-back}
+use Rattle.digits.proofs.Rows.{put-back}
 use Rattle.texts.proofs.put.Statement.{statement}
 use Rattle.texts.proofs.put.Tie as tie
 

@@ -1,6 +1,6 @@
 -- `windows_p::write_by_runs` meets its contract.
 -- Assumes nothing.
-use Rattle.runs.proofs.ChipsSoFar.{SoFar, begun, one-more, part-more, ended}
+use Rattle.stepped.proofs.ChipsSoFar.{SoFar, begun, one-more, part-more, ended}
 use Rattle.machine.specs.Signals.{signalP}
 use lib.ListN.{length-take, length-drop}
 use mathlib.Core.Path.{_≡_}
@@ -11,23 +11,23 @@ use Rattle.windows_p.proofs.write_by_runs.Statement.{statement}
 use Rattle.windows_p.proofs.write_by_runs.Tie as tie
 
 abbrev Inv-loop : tie.InvT-loop
-Inv-loop count x1a x1b x2a x2b out₀ here₀ written₀ out here written =
+Inv-loop count x1a x1b x2a x2b spread out₀ here₀ written₀ out here written =
  SoFar signalP count out₀ here₀ out here written
 
 abbrev μ-loop : tie.MeasureT-loop
-μ-loop count x1a x1b x2a x2b out₀ here₀ written₀ out here written =
+μ-loop count x1a x1b x2a x2b spread out₀ here₀ written₀ out here written =
  count - written
 
 loop-holds : tie.Need-loop-holds Inv-loop μ-loop
 loop-holds c =
- begun _ _ _ _ ((c .before .before .before .before .before .pre) .0) ((c .before .before .before .before .before .pre) .1 .1 .0)
+ begun _ _ _ _ ((c .before .before .before .before .before .before .pre) .0) ((c .before .before .before .before .before .before .pre) .1 .1 .1 .0)
 
 sub-run-by-tables : tie.Need-sub-run-by-tables Inv-loop μ-loop
 sub-run-by-tables c = omega arith
 
 run-by-tables-requires : tie.Need-run-by-tables-requires Inv-loop μ-loop
 run-by-tables-requires c κs =
- ((c .before .loop) .inv .is, ((c .before .before .before .before .before .before .before .pre) .1 .0, omega arith))
+ ((c .before .loop) .inv .is, ((c .before .before .before .before .before .before .before .before .pre) .1 .0, omega arith))
 
 sub-go-along : tie.Need-sub-go-along Inv-loop μ-loop
 sub-go-along c = omega arith
@@ -42,11 +42,11 @@ go-along-requires : tie.Need-go-along-requires Inv-loop μ-loop
 go-along-requires c κs =
     let l = (c .before .before .before .before .loop) in
     let run = (c .before .before .run-by-tables) .ensures in
-    (l .inv .is, ((c .before .before .before .before .before .before .before .before .before .before .pre) .1 .0, (run .1 .1 (omega arith), (run .1 .0 (omega arith), simp (length-take, length-drop) (omega arith)))))
+    (l .inv .is, ((c .before .before .before .before .before .before .before .before .before .before .before .pre) .1 .0, ((c .before .before .before .before .before .before .before .before .before .before .before .pre) .1 .1 .0, (run .1 .1 (omega arith), (run .1 .0 (omega arith), simp (length-take, length-drop) (omega arith))))))
 
 add-written : tie.Need-add-written Inv-loop μ-loop
 add-written c =
- omega (arith, (c .before .before .before .before .before .run-by-tables) .ensures .0, (c .before .before .before .before .before .before .before .before .before .before .before .before .before .pre) .1 .1 .1, (c .before .before .before .before .before .before .before .loop) .inv .bound)
+ omega (arith, (c .before .before .before .before .before .run-by-tables) .ensures .0, (c .before .before .before .before .before .before .before .before .before .before .before .before .before .before .pre) .1 .1 .1 .1, (c .before .before .before .before .before .before .before .loop) .inv .bound)
 
 loop-less : tie.Need-loop-less Inv-loop μ-loop
 loop-less c = omega arith
@@ -67,7 +67,8 @@ step-p-requires : tie.Need-step-p-requires Inv-loop μ-loop
 step-p-requires c κs = search needs
 
 add-written-2 : tie.Need-add-written-2 Inv-loop μ-loop
-add-written-2 c = omega arith
+add-written-2 c =
+ omega (arith, (c .before .before .before .before .before .before .before .before .before .before .before .before .pre) .1 .1 .1 .1, (c .before .before .before .before .before .loop) .inv .bound)
 
 loop-less-2 : tie.Need-loop-less-2 Inv-loop μ-loop
 loop-less-2 c = omega arith

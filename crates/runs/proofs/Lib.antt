@@ -1,2 +1,0 @@
-pub mod ChipsSoFar
-pub mod QuietRuns

@@ -1,0 +1,29 @@
+// Windows of any signal: the chips of so many steps of a channel in range, written to the front of a slice, and the channel so many steps on.
+ghost use mathlib.Core.Path.{_≡_};
+ghost use mathlib.Core.List.{_++_};
+ghost use Prim.Native.Nat.{_≤_};
+ghost use lib.ListN.{length, drop};
+ghost use Rattle.machine.specs.Machine.{advance, chips};
+ghost use Rattle.machine.specs.Ranged.{Ranged};
+use machine::Channel;
+
+// The most chips that one call writes.
+pub const MOST_CHIPS: u64 = 65_536;
+
+// Writes the chips of `count` steps from a channel in range, and gives the channel after them.
+pub fn write_chips(ch: Channel, count: usize, out: &mut [u8]) -> Channel
+    requires { ⌜ Ranged ch ⌝ }
+    requires { ⌜ count ≤ length (now out) ⌝ }
+    requires { ⌜ count ≤ 65536 ⌝ }
+    ensures { λ r. ⌜ (r ≡ advance count ch) × (now (out .exit) ≡ chips count ch ++ drop count (now (out .entry))) ⌝ }
+{
+    let signal = ch.signal;
+    match signal {
+        1 => stepped::write_ca(ch, starts::stages_ca(ch.prn), count, out),
+        2 => windows_p::write_p(ch, count, out),
+        3 => stepped::write_cm(ch, starts::start_cm(ch.prn), count, out),
+        4 => stepped::write_cl(ch, starts::start_cl(ch.prn), count, out),
+        5 => stepped::write_l5(ch, starts::start_i5(ch.prn), count, out),
+        _ => stepped::write_l5(ch, starts::start_q5(ch.prn), count, out),
+    }
+}

@@ -1,0 +1,34 @@
+-- A run of sixteens, for the contracts of inner functions: `proofs/RunsOfSixteens.antt` shows it to be so many steps of the machine's.
+-- Assumes nothing.
+use Prim.Native.Nat.{ℕ, _+_, _*_, _<_, _≤_}
+use Rattle.registers.specs.Times.{times}
+use Rattle.registers.specs.Register.{shiftL2}
+use Rattle.machine.specs.Signals.{weekL2}
+use Rattle.machine.specs.declared.Generator.{Generator}
+use Rattle.machine.specs.declared.Channel.{Channel}
+use Rattle.stretches.specs.Stretches.{stretch, ahead}
+
+-- CM's or CL's generator n steps on in a stretch
+abbrev pub aheadL2 : Generator → ℕ → Generator
+aheadL2 g n = ahead (times shiftL2 n (g .register)) n g
+
+-- so many sixteens of chips are within a stretch, within the week and no more than `most` chips
+pub record Sixteens (last place most : ℕ) (g : Generator) (n : ℕ) : Type 0 where
+  pub in-stretch : n * 16 ≤ stretch last g
+  pub in-week : place + n * 16 < weekL2
+  pub in-most : n * 16 ≤ most
+
+-- a channel n places on, given its first two generators there
+abbrev pub movedBy : ℕ → Generator → Generator → Channel → Channel
+movedBy n first second ch =
+    record {
+      signal = ch .signal;
+      prn = ch .prn;
+      place = ch .place + n;
+      epoch = ch .epoch;
+      delay = ch .delay;
+      first = first;
+      second = second;
+      third = ch .third;
+      fourth = ch .fourth;
+    }

@@ -1,0 +1,148 @@
+// Windows of L2 CM and L2 CL, sixteen chips at a time as long as the generator is not at the end of its cycle, and single steps there. Each of the
+// two has one generator, and the generators that it lacks stay as they are.
+ghost use mathlib.Core.Path.{_≡_};
+ghost use mathlib.Core.Bool.{true, false};
+ghost use mathlib.Core.List.{_++_};
+ghost use Prim.Native.Nat.{_+_, _*_, _%_, _<_, _≤_, _^_};
+ghost use lib.ListN.{length, drop};
+ghost use Rattle.digits.specs.Digits.{row, bytesOf};
+ghost use Rattle.sixteens.specs.Sixteens.{tableL2};
+ghost use Rattle.machine.specs.Generators.{modeInRange};
+ghost use Rattle.machine.specs.Signals.{weekL2, fromCM, fromCL};
+ghost use Rattle.machine.specs.Machine.{advance, chips};
+ghost use Rattle.stepped.specs.Inner.{Of};
+ghost use Rattle.windows_l2.specs.Inner.{aheadL2, Sixteens, movedBy};
+use machine::Channel;
+use machine::Generator;
+use machine::Mode;
+
+// ---- a run of one generator
+
+fn least(a: usize, b: usize) -> usize
+    ensures { λ n. ⌜ (n ≤ a) × (n ≤ b) ⌝ }
+{
+    if a < b { a } else { b }
+}
+
+// How many sixteens of chips come before the last phase of the cycle and before the week's end, in at most `most` chips.
+fn sixteens_before(g: Generator, last: u32, place: u64, most: usize) -> usize
+    requires { ⌜ place < weekL2 ⌝ }
+    ensures { λ n. ⌜ Sixteens last place most g n ⌝ }
+{
+    let cycle = stretches::stretch_of(g, last) as usize;
+    let week = (machine::WEEK_L2 - 1 - place) as usize;
+    least(least(cycle, week), most) / 16
+}
+
+// Writes so many sixteens of chips and gives the generator after them. It runs all along.
+fn write_run(
+    g: Generator,
+    table: &[u64],
+    spread: &[u64],
+    sixteens: usize,
+    out: &mut [u8],
+) -> Generator
+    requires { ⌜ now table ≡ tableL2 ⌝ }
+    requires { ⌜ now spread ≡ row bytesOf 256 ⌝ }
+    requires { ⌜ g .register < 2 ^ 27 ⌝ }
+    requires { ⌜ modeInRange false (g .mode) ≡ true ⌝ }
+    requires { ⌜ g .phase + sixteens * 16 < 2 ^ 32 ⌝ }
+    requires { ⌜ sixteens * 16 ≤ length (now out) ⌝ }
+    ensures { λ r. ⌜ (r ≡ aheadL2 g (sixteens * 16))
+        × (now (out .exit) ≡ row (λ j. aheadL2 g j .register % 2) (sixteens * 16) ++ drop (sixteens * 16) (now (out .entry))) ⌝ }
+{
+    Generator {
+        register: sixteens::write_sixteens(table, spread, g.register, sixteens, out),
+        phase: g.phase + (sixteens * 16) as u32,
+        cycles: g.cycles,
+        mode: Mode::Running,
+    }
+}
+
+// ---- the channel
+
+// The channel after a run of n steps, given its two generators after it. All else is handed on as it is.
+fn move_by(ch: Channel, n: usize, first: Generator, second: Generator) -> Channel
+    requires { ⌜ ch .place + n < weekL2 ⌝ }
+    ensures { λ r. ⌜ r ≡ movedBy n first second ch ⌝ }
+{
+    let third = ch.third;
+    let fourth = ch.fourth;
+    Channel {
+        signal: ch.signal,
+        prn: ch.prn,
+        place: ch.place + n as u64,
+        epoch: ch.epoch,
+        delay: ch.delay,
+        first,
+        second,
+        third,
+        fourth,
+    }
+}
+
+// L2 CM, from its start.
+pub fn write_cm(
+    ch: Channel,
+    start: u32,
+    count: usize,
+    spread: &[u64],
+    out: &mut [u8],
+) -> Channel
+    requires { ⌜ Of (λ prn. fromCM start) ch ⌝ }
+    requires { ⌜ now spread ≡ row bytesOf 256 ⌝ }
+    requires { ⌜ count ≤ length (now out) ⌝ }
+    ensures { λ r. ⌜ (r ≡ advance count ch) × (now (out .exit) ≡ chips count ch ++ drop count (now (out .entry))) ⌝ }
+{
+    let table = sixteens::l2();
+    let mut here = ch;
+    let mut written: usize = 0;
+    while written < count {
+        let sixteens = sixteens_before(here.first, machine::LAST_CM, here.place, count - written);
+        if 0 < sixteens {
+            let first = write_run(here.first, &table, spread, sixteens, &mut out[written..]);
+            let second = here.second;
+            let chips = sixteens * 16;
+            here = move_by(here, chips, first, second);
+            written += chips;
+        } else {
+            out[written] = steps::chip_cm(here);
+            here = steps::step_cm(here, start);
+            written += 1;
+        }
+    }
+    here
+}
+
+// L2 CL, from its start.
+pub fn write_cl(
+    ch: Channel,
+    start: u32,
+    count: usize,
+    spread: &[u64],
+    out: &mut [u8],
+) -> Channel
+    requires { ⌜ Of (λ prn. fromCL start) ch ⌝ }
+    requires { ⌜ now spread ≡ row bytesOf 256 ⌝ }
+    requires { ⌜ count ≤ length (now out) ⌝ }
+    ensures { λ r. ⌜ (r ≡ advance count ch) × (now (out .exit) ≡ chips count ch ++ drop count (now (out .entry))) ⌝ }
+{
+    let table = sixteens::l2();
+    let mut here = ch;
+    let mut written: usize = 0;
+    while written < count {
+        let sixteens = sixteens_before(here.second, machine::LAST_CL, here.place, count - written);
+        if 0 < sixteens {
+            let second = write_run(here.second, &table, spread, sixteens, &mut out[written..]);
+            let first = here.first;
+            let chips = sixteens * 16;
+            here = move_by(here, chips, first, second);
+            written += chips;
+        } else {
+            out[written] = steps::chip_cl(here);
+            here = steps::step_cl(here, start);
+            written += 1;
+        }
+    }
+    here
+}
