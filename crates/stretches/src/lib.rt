@@ -10,6 +10,12 @@ ghost use Rattle.stretches.specs.Stretches.{stretch, Within, wordOf, all
 use machine::Generator;
 use machine::Mode;
 
+pub fn least(a: usize, b: usize) -> usize
+    ensures { λ n. ⌜ (n ≤ a) × ((n ≤ b) × (0 < a → 0 < b → 0 < n)) ⌝ }
+{
+    if a < b { a } else { b }
+}
+
 // The steps that a stretch has from here on, given the last phase of the generator's cycle.
 pub fn stretch_of(g: Generator, last: u32) -> u32
     ensures { λ r. ⌜ r ≡ stretch last g ⌝ }

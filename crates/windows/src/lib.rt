@@ -10,6 +10,28 @@ use machine::Channel;
 // The most chips that one call writes.
 pub const MOST_CHIPS: u64 = 65_536;
 
+// A window that is shorter than this is stepped: the tables are not worth while.
+const SHORT: usize = 48;
+
+// Writes the chips of `count` steps from a channel in range, by the tables of its signal.
+fn write_by_tables(ch: Channel, count: usize, out: &mut [u8]) -> Channel
+    requires { ⌜ Ranged ch ⌝ }
+    requires { ⌜ count ≤ length (now out) ⌝ }
+    requires { ⌜ count ≤ 65536 ⌝ }
+    ensures { λ r. ⌜ (r ≡ advance count ch) × (now (out .exit) ≡ chips count ch ++ drop count (now (out .entry))) ⌝ }
+{
+    let spread = digits::spread();
+    let signal = ch.signal;
+    match signal {
+        1 => stepped::write_chips(ch, count, out),
+        2 => windows_p::write_p(ch, count, &spread, out),
+        3 => windows_l2::write_cm(ch, starts::start_cm(ch.prn), count, &spread, out),
+        4 => windows_l2::write_cl(ch, starts::start_cl(ch.prn), count, &spread, out),
+        5 => stepped::write_chips(ch, count, out),
+        _ => stepped::write_chips(ch, count, out),
+    }
+}
+
 // Writes the chips of `count` steps from a channel in range, and gives the channel after them.
 pub fn write_chips(ch: Channel, count: usize, out: &mut [u8]) -> Channel
     requires { ⌜ Ranged ch ⌝ }
@@ -17,13 +39,9 @@ pub fn write_chips(ch: Channel, count: usize, out: &mut [u8]) -> Channel
     requires { ⌜ count ≤ 65536 ⌝ }
     ensures { λ r. ⌜ (r ≡ advance count ch) × (now (out .exit) ≡ chips count ch ++ drop count (now (out .entry))) ⌝ }
 {
-    let signal = ch.signal;
-    match signal {
-        1 => stepped::write_ca(ch, starts::stages_ca(ch.prn), count, out),
-        2 => windows_p::write_p(ch, count, out),
-        3 => stepped::write_cm(ch, starts::start_cm(ch.prn), count, out),
-        4 => stepped::write_cl(ch, starts::start_cl(ch.prn), count, out),
-        5 => stepped::write_l5(ch, starts::start_i5(ch.prn), count, out),
-        _ => stepped::write_l5(ch, starts::start_q5(ch.prn), count, out),
+    if count < SHORT {
+        stepped::write_chips(ch, count, out)
+    } else {
+        write_by_tables(ch, count, out)
     }
 }

@@ -5,7 +5,6 @@ use Rattle.registers.specs.Times.{times}
 use Rattle.registers.specs.Register.{shiftL2}
 use Rattle.machine.specs.Signals.{weekL2}
 use Rattle.machine.specs.declared.Generator.{Generator}
-use Rattle.machine.specs.declared.Channel.{Channel}
 use Rattle.stretches.specs.Stretches.{stretch, ahead}
 
 -- CM's or CL's generator n steps on in a stretch
@@ -17,18 +16,3 @@ pub record Sixteens (last place most : ℕ) (g : Generator) (n : ℕ) : Type 0 w
   pub in-stretch : n * 16 ≤ stretch last g
   pub in-week : place + n * 16 < weekL2
   pub in-most : n * 16 ≤ most
-
--- a channel n places on, given its first two generators there
-abbrev pub movedBy : ℕ → Generator → Generator → Channel → Channel
-movedBy n first second ch =
-    record {
-      signal = ch .signal;
-      prn = ch .prn;
-      place = ch .place + n;
-      epoch = ch .epoch;
-      delay = ch .delay;
-      first = first;
-      second = second;
-      third = ch .third;
-      fourth = ch .fourth;
-    }

@@ -11,18 +11,12 @@ ghost use Rattle.machine.specs.Generators.{modeInRange};
 ghost use Rattle.machine.specs.Signals.{weekL2, fromCM, fromCL};
 ghost use Rattle.machine.specs.Machine.{advance, chips};
 ghost use Rattle.stepped.specs.Inner.{Of};
-ghost use Rattle.windows_l2.specs.Inner.{aheadL2, Sixteens, movedBy};
+ghost use Rattle.windows_l2.specs.Inner.{aheadL2, Sixteens};
 use machine::Channel;
 use machine::Generator;
 use machine::Mode;
 
 // ---- a run of one generator
-
-fn least(a: usize, b: usize) -> usize
-    ensures { λ n. ⌜ (n ≤ a) × (n ≤ b) ⌝ }
-{
-    if a < b { a } else { b }
-}
 
 // How many sixteens of chips come before the last phase of the cycle and before the week's end, in at most `most` chips.
 fn sixteens_before(g: Generator, last: u32, place: u64, most: usize) -> usize
@@ -31,7 +25,7 @@ fn sixteens_before(g: Generator, last: u32, place: u64, most: usize) -> usize
 {
     let cycle = stretches::stretch_of(g, last) as usize;
     let week = (machine::WEEK_L2 - 1 - place) as usize;
-    least(least(cycle, week), most) / 16
+    stretches::least(stretches::least(cycle, week), most) / 16
 }
 
 // Writes so many sixteens of chips and gives the generator after them. It runs all along.
@@ -59,27 +53,7 @@ fn write_run(
     }
 }
 
-// ---- the channel
-
-// The channel after a run of n steps, given its two generators after it. All else is handed on as it is.
-fn move_by(ch: Channel, n: usize, first: Generator, second: Generator) -> Channel
-    requires { ⌜ ch .place + n < weekL2 ⌝ }
-    ensures { λ r. ⌜ r ≡ movedBy n first second ch ⌝ }
-{
-    let third = ch.third;
-    let fourth = ch.fourth;
-    Channel {
-        signal: ch.signal,
-        prn: ch.prn,
-        place: ch.place + n as u64,
-        epoch: ch.epoch,
-        delay: ch.delay,
-        first,
-        second,
-        third,
-        fourth,
-    }
-}
+// ---- the window
 
 // L2 CM, from its start.
 pub fn write_cm(
@@ -103,7 +77,7 @@ pub fn write_cm(
             let first = write_run(here.first, &table, spread, sixteens, &mut out[written..]);
             let second = here.second;
             let chips = sixteens * 16;
-            here = move_by(here, chips, first, second);
+            here = plain_runs::move_by(here, chips, first, second);
             written += chips;
         } else {
             out[written] = steps::chip_cm(here);
@@ -136,7 +110,7 @@ pub fn write_cl(
             let second = write_run(here.second, &table, spread, sixteens, &mut out[written..]);
             let first = here.first;
             let chips = sixteens * 16;
-            here = move_by(here, chips, first, second);
+            here = plain_runs::move_by(here, chips, first, second);
             written += chips;
         } else {
             out[written] = steps::chip_cl(here);

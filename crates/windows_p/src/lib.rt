@@ -51,12 +51,6 @@ fn both(a: Generator, ta: &[u64], b: Generator, tb: &[u64], n: usize) -> u64
     first ^ second
 }
 
-fn least(a: usize, b: usize) -> usize
-    ensures { λ n. ⌜ (n ≤ a) × ((n ≤ b) × (0 < a → 0 < b → 0 < n)) ⌝ }
-{
-    if a < b { a } else { b }
-}
-
 // The chips that are written at once: seven eights, fewer than a word has.
 const BLOCK: usize = 56;
 
@@ -81,7 +75,7 @@ fn write_run(
     let mut line = ch.delay;
     let mut i: usize = 0;
     while i < n {
-        let k = least(n - i, BLOCK) as u32;
+        let k = stretches::least(n - i, BLOCK) as u32;
         let x1 = both(ch.first, x1a, ch.second, x1b, i);
         let x2 = both(ch.third, x2a, ch.fourth, x2b, i);
         digits::write_word(
@@ -142,9 +136,9 @@ fn run_of(ch: Channel, most: usize) -> usize
     let third = stretches::stretch_of(ch.third, machine::LAST_X2A) as usize;
     let fourth = stretches::stretch_of(ch.fourth, machine::LAST_X2B) as usize;
     let week = (machine::WEEK_P - 1 - ch.place) as usize;
-    let x1 = least(first, second);
-    let x2 = least(third, fourth);
-    least(least(x1, x2), least(week, most))
+    let x1 = stretches::least(first, second);
+    let x2 = stretches::least(third, fourth);
+    stretches::least(stretches::least(x1, x2), stretches::least(week, most))
 }
 
 // Whether each register is the one of its phase.
