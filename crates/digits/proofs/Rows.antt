@@ -5,7 +5,7 @@
 --     row-then     a row, and more behind it
 --     put-back     what a write to the rest of a slice leaves in the whole
 --     begun             none written
---     go-on, ended-on   some written by another before
+--     go-on, ended-on, last-part   some written by another before
 --     one-more          one more number written
 --     part-more         a row more written to the rest of the slice
 --     ended             all written
@@ -129,6 +129,16 @@ module _ (x : ℕ → ℕ) (count : ℕ) (old : List ℕ) where
   pub ended-on : (mid new : List ℕ) (m n : ℕ) → m ≤ count → mid ≡ row x m ++ drop m old → Filled x count mid new n → n ≡ count
       → new ≡ row x count ++ drop count old
   ended-on mid new m n h e f all = rw all at (f .filled) ∙ ap (λ (l : List ℕ). row x count ++ l) (rest-is mid m count h e)
+
+  -- the rest written in one part
+  pub last-part : (mid part : List ℕ) (n k : ℕ) (y : ℕ → ℕ) → n + k ≡ count → count ≤ length old → mid ≡ row x n ++ drop n old
+      → ((j : ℕ) → j < k → y j ≡ x (n + j)) → part ≡ row y k ++ drop k (take (length mid - n) (drop n mid))
+      → take n mid ++ (part ++ drop (length mid - n) (drop n mid)) ≡ row x count ++ drop count old
+  last-part mid part n k y all room e same part-is =
+      let le : n ≤ count = omega (arith, all) in
+      let long : length mid ≡ length old = rw e (simp (length-append, row-length, length-drop) (omega (arith, le, room))) in
+      let f : Filled x count old mid n = record { bound = le; room = room; same = long; filled = e } in
+      rw all at (part-more mid part n k y f (omega (arith, all)) same part-is .filled)
 
   pub ended : (new : List ℕ) (n : ℕ) → Filled x count old new n → n ≡ count → new ≡ row x count ++ drop count old
   ended new n f all = rw all at (f .filled)

@@ -60,3 +60,12 @@ pub fn write_word(word: u64, count: u32, spread: &[u64], out: &mut [u8])
         i += 1;
     }
 }
+
+// Writes all 64 digits of a word.
+pub fn write_whole(word: u64, spread: &[u64], out: &mut [u8])
+    requires { ⌜ now spread ≡ row bytesOf 256 ⌝ }
+    requires { ⌜ 64 ≤ length (now out) ⌝ }
+    ensures { λ _. ⌜ now (out .exit) ≡ row (digit 64 word) 64 ++ drop 64 (now (out .entry)) ⌝ }
+{
+    write_eights(word, 8, spread, out);
+}

@@ -3,8 +3,8 @@
 --     channel-is   the channel after it, its registers read from the tables
 --     rooms, fitting-is   the test of the registers
 -- Assumes nothing.
-use Prim.Native.Nat.{ℕ, zero, suc, _+_, _-_, _*_, _/_, _%_, _^_, _<_, _≤_}
-use mathlib.Core.Path.{_≡_, refl, sym, ap, _∙_, subst}
+use Prim.Native.Nat.{ℕ, _+_, _-_, _/_, _^_, _<_, _≤_}
+use mathlib.Core.Path.{_≡_, refl, sym, ap, _∙_}
 use mathlib.Core.List.{List}
 use mathlib.Core.Bool.{true}
 use native.Mathlib.Omega.{arith}
@@ -13,21 +13,20 @@ use lib.ListN.{length}
 use Rattle.registers.specs.Times.{times}
 use Rattle.registers.specs.Register.{shift, tapsX1A, tapsX1B, tapsX2A, tapsX2B}
 use Rattle.starts.specs.Starts.{startX1A, startX1B, startX2A, startX2B}
-use Rattle.machine.specs.Generators.{Kind}
-use Rattle.machine.specs.Signals.{signalOf, signalP, x1a, x1b, x2a, x2b}
+use Rattle.machine.specs.Signals.{signalP, x1a, x1b, x2a, x2b}
 use Rattle.machine.specs.Machine.{advance, chips}
 use Rattle.machine.specs.Ranged.{RangedAs}
 use Rattle.machine.specs.declared.Generator.{Generator}
 use Rattle.machine.specs.declared.Channel.{Channel}
 use Rattle.digits.specs.Digits.{row}
 use Rattle.sequences.specs.Sequences.{sequence, wordIn}
-use Rattle.stretches.specs.Stretches.{stretch, ahead, aheadBy}
+use Rattle.stretches.specs.Stretches.{ahead, aheadBy}
 use Rattle.stretches.proofs.Arrivals.{x1b-runs-on, x2a-runs-on, x2b-runs-on}
 use Rattle.stretches.proofs.LawOfRuns.{goes}
 use Rattle.stretches.proofs.Along.{Along, at, at-is, chips-are}
 use Rattle.stretches.proofs.Tables.{table-length, register-there, after-is, fits-is}
 use Rattle.stepped.specs.Inner.{Of}
-use Rattle.windows_p.specs.Runs.{Tables, Fits, Fitting, Run, lineBy, lineAlong, chipAlong}
+use Rattle.windows_p.specs.Runs.{Tables, Fitting, Run, lineBy, lineAlong, chipAlong}
 
 module _ (n : ℕ) (ch : Channel) (run : Run n ch) where
   along : Along (signalP (ch .prn)) n ch (aheadBy x1a (ch .first)) (aheadBy x1b (ch .second)) (aheadBy x2a (ch .third)) (aheadBy x2b (ch .fourth)) (lineAlong ch)

@@ -3,15 +3,14 @@
 --     block-tells    the digits of the sum are the chips
 --     block-line     the delay line after them
 -- Assumes nothing.
-use Prim.Native.Nat.{ℕ, zero, suc, _+_, _-_, _*_, _/_, _%_, _^_, _<_, _≤_}
-use mathlib.Core.Path.{_≡_, refl, sym, ap, _∙_, subst}
+use Prim.Native.Nat.{ℕ, _+_, _-_, _*_, _/_, _%_, _^_, _<_, _≤_}
+use mathlib.Core.Path.{_≡_, sym, ap, _∙_, subst}
 use mathlib.Core.List.{List}
 use native.Mathlib.Omega.{arith}
 use lib.Bits.{bitXor}
 use lib.Dec.{lit≤}
 use lib.ListN.{length}
-use Rattle.registers.specs.Register.{stage, shiftX1A, shiftX1B, shiftX2A, shiftX2B}
-use Rattle.starts.specs.Starts.{startX1A, startX1B, startX2A, startX2B}
+use Rattle.registers.specs.Register.{stage}
 use Rattle.machine.specs.Generators.{Kind}
 use Rattle.machine.specs.Signals.{x1a, x1b, x2a, x2b}
 use Rattle.machine.specs.declared.Generator.{Generator}

@@ -2,11 +2,12 @@
 --     line-is        the line after j chips of a word
 --     delayed-tells  the bits that P takes of the line, as a word
 --     line-later     a line that has taken in some, and takes in more
+--     line-anew      the line after a whole word
 --     line-lt        a line stays within its 37 bits
 -- Assumes nothing.
 use Prim.Native.Nat.{ℕ, zero, suc, _+_, _-_, _*_, _/_, _%_, _^_, _<_, _≤_}
 use mathlib.Core.Path.{_≡_, refl, sym, ap, ap₂, _∙_, subst}
-use native.Mathlib.Nat.{add-zero, add-suc, zero-add, mul-one, mul-assoc, pow-suc, mod-lt, mod-eq-of-lt, div-add-mod', zero-mul}
+use native.Mathlib.Nat.{add-zero, add-suc, zero-add, mul-one, mul-assoc, pow-suc, mod-lt, mod-eq-of-lt, zero-mul}
 use native.Mathlib.Omega.{arith}
 use lib.Bits.{bitOr, or-shifted}
 use lib.Dec.{lit<}
@@ -41,6 +42,10 @@ unfolding lineBy
 line-later x line i zero = ap (lineBy x line) (sym (add-zero i))
 line-later x line i (suc j) =
     ap (λ (l : ℕ). (l * 2 + x (i + j)) % 2 ^ 37) (line-later x line i j) ∙ ap (lineBy x line) (sym (add-suc i j))
+
+-- after a whole word nothing is left of the line
+pub line-anew : (line word : ℕ) → word % 2 ^ 37 ≡ (line * 2 ^ 64 + word / 2 ^ (64 - 64)) % 2 ^ 37
+line-anew line word = omega arith
 
 module _ (x : ℕ → ℕ) (line word k : ℕ) (line-in : line < 2 ^ 37) (word-in : word < 2 ^ 64) (k-in : k ≤ 64) (tells : Tells word k x) where
   pub line-is : (j : ℕ) → j ≤ k → lineBy x line j ≡ (line * 2 ^ j + word / 2 ^ (64 - j)) % 2 ^ 37

@@ -51,10 +51,39 @@ fn both(a: Generator, ta: &[u64], b: Generator, tb: &[u64], n: usize) -> u64
     first ^ second
 }
 
-// The chips that are written at once: seven eights, fewer than a word has.
-const BLOCK: usize = 56;
+// Writes the chips of a run in whole words, and gives the delay line after them.
+fn write_words(
+    ch: Channel,
+    n: usize,
+    x1a: &[u64],
+    x1b: &[u64],
+    x2a: &[u64],
+    x2b: &[u64],
+    spread: &[u64],
+    out: &mut [u8],
+) -> u64
+    requires { ⌜ Tables (now x1a) (now x1b) (now x2a) (now x2b) ⌝ }
+    requires { ⌜ now spread ≡ row bytesOf 256 ⌝ }
+    requires { ⌜ Fitting ch ⌝ }
+    requires { ⌜ Run n ch ⌝ }
+    requires { ⌜ n ≤ length (now out) ⌝ }
+    ensures { λ r. ⌜ (r ≡ lineAlong ch (n / 64 * 64)) × (now (out .exit) ≡ row (chipAlong ch) (n / 64 * 64) ++ drop (n / 64 * 64) (now (out .entry))) ⌝ }
+{
+    let whole = n / 64 * 64;
+    let mut line = ch.delay;
+    let mut i: usize = 0;
+    while i < whole {
+        let x1 = both(ch.first, x1a, ch.second, x1b, i);
+        let x2 = both(ch.third, x2a, ch.fourth, x2b, i);
+        let word = x1 ^ delayed(line, x2, ch.prn);
+        digits::write_whole(word, spread, &mut out[i..]);
+        line = x2 % machine::LINE_LIMIT;
+        i += 64;
+    }
+    line
+}
 
-// Writes the chips of a run, and gives the delay line after it.
+// Writes the chips of a run, the last of them in a part of a word, and gives the delay line after it.
 fn write_run(
     ch: Channel,
     n: usize,
@@ -72,22 +101,17 @@ fn write_run(
     requires { ⌜ n ≤ length (now out) ⌝ }
     ensures { λ r. ⌜ (r ≡ lineAlong ch n) × (now (out .exit) ≡ row (chipAlong ch) n ++ drop n (now (out .entry))) ⌝ }
 {
-    let mut line = ch.delay;
-    let mut i: usize = 0;
-    while i < n {
-        let k = stretches::least(n - i, BLOCK) as u32;
-        let x1 = both(ch.first, x1a, ch.second, x1b, i);
-        let x2 = both(ch.third, x2a, ch.fourth, x2b, i);
-        digits::write_word(
-            x1 ^ delayed(line, x2, ch.prn),
-            k,
-            spread,
-            &mut out[i..],
-        );
-        line = line_after(line, x2, k);
-        i += k as usize;
+    let line = write_words(ch, n, x1a, x1b, x2a, x2b, spread, out);
+    let i = n / 64 * 64;
+    let k = (n - i) as u32;
+    if k == 0 {
+        return line;
     }
-    line
+    let x1 = both(ch.first, x1a, ch.second, x1b, i);
+    let x2 = both(ch.third, x2a, ch.fourth, x2b, i);
+    let word = x1 ^ delayed(line, x2, ch.prn);
+    digits::write_word(word, k, spread, &mut out[i..]);
+    line_after(line, x2, k)
 }
 
 // Writes the chips of a run, and gives the channel after it.

@@ -7,7 +7,6 @@ use native.Mathlib.Omega.{arith}
 use mathlib.Core.Path.{sym, _∙_}
 use mathlib.Core.Bool.{_&&_}
 use Prim.Native.Nat.{_≤_}
-use borrow.Author.Needs.{needs}
 use Rattle.windows_p.proofs.fitting.Statement.{statement}
 use Rattle.windows_p.proofs.fitting.Tie as tie
 

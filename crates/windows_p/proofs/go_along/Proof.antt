@@ -4,7 +4,7 @@ use Rattle.windows_p.proofs.AlongP.{run-chips, channel-is}
 use Rattle.windows_p.proofs.Blocks.{first-within, second-within, third-within, fourth-within}
 use lib.ListN.{drop}
 use lib.Dec.{lit≤}
-use mathlib.Core.List.{List, _++_}
+use mathlib.Core.List.{_++_}
 use mathlib.Core.Path.{sym, ap, _∙_}
 use Prim.Native.Nat.{_+_, _≤_}
 use native.Mathlib.Omega.{arith}

@@ -3,8 +3,7 @@
 use Rattle.stepped.proofs.ChipsSoFar.{SoFar, begun, one-more, part-more, ended}
 use Rattle.machine.specs.Signals.{signalP}
 use lib.ListN.{length-take, length-drop}
-use mathlib.Core.Path.{_≡_}
-use Prim.Native.Nat.{_-_, _≤_}
+use Prim.Native.Nat.{_-_}
 use native.Mathlib.Omega.{arith}
 use borrow.Author.Needs.{needs}
 use Rattle.windows_p.proofs.write_by_runs.Statement.{statement}
