@@ -1,6 +1,7 @@
 -- A run is so many steps of the machine's.
 --     in-cycle   a generator that is never held stays below its last phase in a stretch
 --     stays      a generator that the signal lacks
+--     run-advance, run-chips   where a run comes to, and its chips
 --     more       a loop that writes a window has written a run more
 -- Assumes nothing.
 use Prim.Native.Nat.{ℕ, _+_, _-_, _*_, _%_, _<_, _≤_}
@@ -13,7 +14,7 @@ use lib.Dec.{T}
 use lib.ListN.{length, take, drop}
 use Rattle.digits.specs.Digits.{row}
 use Rattle.machine.specs.Generators.{Kind, modeInRange}
-use Rattle.machine.specs.Signals.{plain, none}
+use Rattle.machine.specs.Signals.{signalOf, plain, none}
 use Rattle.machine.specs.Machine.{advance, chips}
 use Rattle.machine.specs.Ranged.{RangedKind, RangedAs}
 use Rattle.machine.specs.declared.Mode.{Mode}
@@ -57,6 +58,15 @@ module _ (week : ℕ) (a b : Kind) (chip : Channel → ℕ) (n : ℕ) (ch : Chan
         in-week = in-week;
       }
 
+  module _ (named : signalOf (ch .signal) (ch .prn) ≡ plain week a b chip) (r : RangedAs (plain week a b chip) ch) (f : Goes a n (ch .first) first)
+      (s : Goes b n (ch .second) second) (one : (j : ℕ) → first j .cycles ≡ ch .first .cycles) (in-week : ch .place + n < week)
+      where
+    pub run-advance : advance n ch ≡ movedBy n (first n) (second n) ch
+    run-advance = at-is (plain week a b chip) n ch first second _ _ _ named (along r f s one in-week) n (omega arith)
+
+    pub run-chips : chips n ch ≡ row (λ j. chip (movedBy j (first j) (second j) ch)) n
+    run-chips = chips-are (plain week a b chip) n ch first second _ _ _ named (along r f s one in-week) n (omega arith)
+
   -- a run in a loop that writes a window
   pub more : (count : ℕ) (old new part : List ℕ) (start next : Channel) (m : ℕ) → SoFar (λ prn. plain week a b chip) count old start new ch m
       → m + n ≤ count
@@ -68,13 +78,7 @@ module _ (week : ℕ) (a b : Kind) (chip : Channel → ℕ) (n : ℕ) (ch : Chan
       → next ≡ movedBy n (first n) (second n) ch
       → SoFar (λ prn. plain week a b chip) count old start (take m new ++ (part ++ drop (length new - m) (drop m new))) next (m + n)
   more count old new part start next m w room f s one in-week part-is next-is =
-      let goes-on = along (w .is .fields) f s one in-week in
-      let named = w .is .named in
-      let there : advance n ch ≡ movedBy n (first n) (second n) ch
-      = at-is (plain week a b chip) n ch first second _ _ _ named goes-on n (omega arith)
-      in
-      let given : chips n ch ≡ row (λ j. chip (movedBy j (first j) (second j) ch)) n
-      = chips-are (plain week a b chip) n ch first second _ _ _ named goes-on n (omega arith)
-      in
+      let there = run-advance (w .is .named) (w .is .fields) f s one in-week in
+      let given = run-chips (w .is .named) (w .is .fields) f s one in-week in
       part-more (λ prn. plain week a b chip) count old start new part ch next m n w room
       (part-is ∙ ap (λ (l : List ℕ). l ++ drop n (take (length new - m) (drop m new))) (sym given)) (next-is ∙ sym there)

@@ -16,7 +16,7 @@ use starts::Stages;
 // ---- C/A
 
 // Given the two stages of G2 that its PRN adds.
-fn write_ca(ch: Channel, stages: Stages, count: usize, out: &mut [u8]) -> Channel
+pub fn write_ca(ch: Channel, stages: Stages, count: usize, out: &mut [u8]) -> Channel
     requires { ⌜ Of signalCA ch ⌝ }
     requires { ⌜ stages ≡ stagesOf (ch .prn) ⌝ }
     requires { ⌜ count ≤ length (now out) ⌝ }

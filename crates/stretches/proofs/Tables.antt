@@ -6,6 +6,7 @@
 --     register-there  the register of a phase, read from a table that begins at phase 0 or before
 --     after-is        a generator ahead, its register read from the table
 --     fits-is         what the test of a register tells
+--     words-within, words-tell   the words of a stretch, and their digits
 -- Assumes nothing.
 use Prim.Native.Nat.{ℕ, zero, suc, _+_, _-_, _*_, _/_, _%_, _^_, _<_, _≤_}
 use mathlib.Core.Path.{_≡_, refl, sym, ap, _∙_}
@@ -25,8 +26,8 @@ use Rattle.machine.specs.Generators.{Kind}
 use Rattle.machine.specs.declared.Mode.{Mode}
 use Rattle.machine.specs.declared.Mode.the-variants.{Running, Held}
 use Rattle.machine.specs.declared.Generator.{Generator}
-use Rattle.stretches.specs.Stretches.{stretch, ahead, aheadBy, Tabled}
-use Rattle.stretches.proofs.LawOfRuns.{room}
+use Rattle.stretches.specs.Stretches.{stretch, ahead, aheadBy, wordOf, all, Within, Tabled}
+use Rattle.stretches.proofs.LawOfRuns.{law-of-runs, room, within}
 
 pub table-length : (f : ℕ → ℕ) (s n r : ℕ) → length (sequence f s n r) ≡ n
 unfolding sequence
@@ -95,3 +96,15 @@ module _ (k : Kind) (seq : List ℕ) (from s last : ℕ)
   pub fits-is : (g : Generator) → g .phase ≤ last → eqb (wordIn seq (from + g .phase) / 2 ^ (64 - s)) (g .register) ≡ true
       → g .register ≡ times (k .shift) (g .phase) (k .start)
   fits-is g h t = sym (eqb-true _ _ t) ∙ registers (g .phase) h
+
+-- ---- the words of a stretch
+
+module _ (k : Kind) (seq : List ℕ) (from s last : ℕ) (t : Tabled seq from s (k .shift) (k .start) last) (g : Generator) (n i : ℕ)
+    (some : 0 < n) (few : from + g .phase + n < 2 ^ 32) (long : n ≤ stretch last g) (before : i ≤ n)
+    where
+  pub words-within : Within g from i (length seq)
+  words-within = within g from last n i (length seq) some long before (omega (arith, few, before)) (t .long)
+
+  pub words-tell : g .register ≡ times (k .shift) (g .phase) (k .start)
+      → Tells (wordOf (g .mode) (wordIn seq (from + g .phase + i)) (all (stage s (g .register)))) 64 (λ j. stage s (aheadBy k g (i + j) .register))
+  words-tell fits = law-of-runs seq from s k last t g i fits (λ m. omega (arith, room g last n i some long before m))

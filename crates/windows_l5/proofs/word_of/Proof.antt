@@ -1,0 +1,20 @@
+-- `windows_l5::word_of` meets its contract.
+-- Assumes nothing.
+use lib.Bits.{bitXor}
+use mathlib.Core.Path.{ap₂}
+use borrow.Author.Needs.{needs}
+use Rattle.windows_l5.proofs.word_of.Statement.{statement}
+use Rattle.windows_l5.proofs.word_of.Tie as tie
+
+word-of-requires : tie.Need-word-of-requires
+word-of-requires c κs = search needs
+
+word-of-requires-2 : tie.Need-word-of-requires-2
+word-of-requires-2 c κs = search needs
+
+returns : tie.Need-returns
+returns c =
+ ap₂ bitXor ((c .before .word-of) .ensures) ((c .word-of2) .ensures)
+
+pub word-of-spec : {M : Type 1} → statement M
+word-of-spec = tie.close (tie.spec word-of-requires word-of-requires-2 returns)
