@@ -23,12 +23,12 @@ fn write_by_tables(ch: Channel, count: usize, out: &mut [u8]) -> Channel
     let spread = digits::spread();
     let signal = ch.signal;
     match signal {
-        1 => stepped::write_chips(ch, count, out),
+        1 => windows_ca::write_ca(ch, starts::stages_ca(ch.prn), count, &spread, out),
         2 => windows_p::write_p(ch, count, &spread, out),
         3 => windows_l2::write_cm(ch, starts::start_cm(ch.prn), count, &spread, out),
         4 => windows_l2::write_cl(ch, starts::start_cl(ch.prn), count, &spread, out),
-        5 => stepped::write_chips(ch, count, out),
-        _ => stepped::write_chips(ch, count, out),
+        5 => windows_l5::write_i5(ch, count, &spread, out),
+        _ => windows_l5::write_q5(ch, count, &spread, out),
     }
 }
 

@@ -1,8 +1,8 @@
 -- `windows::write_by_tables` meets its contract.
 -- Assumes nothing.
 use Rattle.stepped.proofs.ChipsSoFar.{of-signal}
-use Rattle.machine.proofs.Numbered.{is-p, is-cm, is-cl}
-use Rattle.machine.specs.Signals.{signalP, fromCM, fromCL}
+use Rattle.machine.proofs.Numbered.{is-ca, is-p, is-cm, is-cl, is-i5, is-q5, is-sixth}
+use Rattle.machine.specs.Signals.{signalCA, signalP, fromCM, fromCL}
 use mathlib.Core.Path.{sym, ap, _∙_}
 use borrow.Author.Needs.{needs}
 use Rattle.windows.proofs.write_by_tables.Statement.{statement}
@@ -11,8 +11,17 @@ use Rattle.windows.proofs.write_by_tables.Tie as tie
 spread-requires : tie.Need-spread-requires
 spread-requires c κs = search needs
 
-write-chips-requires : tie.Need-write-chips-requires
-write-chips-requires c κs = search needs
+stages-ca-requires : tie.Need-stages-ca-requires
+stages-ca-requires c κs = search needs
+
+slice-aggregate-write-ca : tie.Need-slice-aggregate-write-ca
+slice-aggregate-write-ca c = search needs
+
+write-ca-requires : tie.Need-write-ca-requires
+write-ca-requires c κs =
+    let p = (c .before .before .before .before .before .before .pre) in
+    let ch = (c .before .before .before .before .before .before .args) .ch in
+    (of-signal signalCA ch (p .0) (is-ca (ch .signal) (ch .prn) ((c .before .before .before .match) .keys1)), ((c .before .before .stages-ca) .ensures, ((c .before .before .before .before .spread) .ensures, (p .1 .0, p .1 .1))))
 
 slice-aggregate-write-p : tie.Need-slice-aggregate-write-p
 slice-aggregate-write-p c = search needs
@@ -49,11 +58,25 @@ write-cl-requires c κs =
     let named = is-cl (ch .signal) (ch .prn) ((c .before .before .before .match) .keys4) ∙ ap fromCL (sym ((c .before .before .start-cl) .ensures)) in
     (of-signal _ ch (p .0) named, ((c .before .before .before .before .spread) .ensures, p .1 .0))
 
-write-chips-requires-2 : tie.Need-write-chips-requires-2
-write-chips-requires-2 c κs = search needs
+slice-aggregate-write-i5 : tie.Need-slice-aggregate-write-i5
+slice-aggregate-write-i5 c = search needs
 
-write-chips-requires-3 : tie.Need-write-chips-requires-3
-write-chips-requires-3 c κs = search needs
+write-i5-requires : tie.Need-write-i5-requires
+write-i5-requires c κs =
+    let p = (c .before .before .before .before .before .pre) in
+    let ch = (c .before .before .before .before .before .args) .ch in
+    (of-signal _ ch (p .0) (is-i5 (ch .signal) (ch .prn) ((c .before .before .match) .keys5)), ((c .before .before .before .spread) .ensures, (p .1 .0, p .1 .1)))
+
+slice-aggregate-write-q5 : tie.Need-slice-aggregate-write-q5
+slice-aggregate-write-q5 c = search needs
+
+write-q5-requires : tie.Need-write-q5-requires
+write-q5-requires c κs =
+    let p = (c .before .before .before .before .before .pre) in
+    let ch = (c .before .before .before .before .before .args) .ch in
+    let no = (c .before .before .match) .rest in
+    let six = is-sixth (ch .signal) (p .0 .signal-first) (p .0 .signal-last) (no .0 .0 .0 .0 .1) (no .0 .0 .0 .1) (no .0 .0 .1) (no .0 .1) (no .1) in
+    (of-signal _ ch (p .0) (is-q5 (ch .signal) (ch .prn) six), ((c .before .before .before .spread) .ensures, (p .1 .0, p .1 .1)))
 
 same-length : tie.Need-same-length
 same-length c = search needs
@@ -96,7 +119,9 @@ write-by-tables-spec =
     tie.close
     (tie.spec
     spread-requires
-    write-chips-requires
+    stages-ca-requires
+    slice-aggregate-write-ca
+    write-ca-requires
     slice-aggregate-write-p
     write-p-requires
     start-cm-requires
@@ -105,8 +130,10 @@ write-by-tables-spec =
     start-cl-requires
     slice-aggregate-write-cl
     write-cl-requires
-    write-chips-requires-2
-    write-chips-requires-3
+    slice-aggregate-write-i5
+    write-i5-requires
+    slice-aggregate-write-q5
+    write-q5-requires
     same-length
     returns
     same-length-2

@@ -26,8 +26,10 @@ fits-requires-2 c κs =
 returns : tie.Need-returns
 returns c =
     let p = (c .before .before .before .before .pre) in
+    let a = (c .before .fits2) .result in
+    let b = (c .fits3) .result in
     λ t.
-    fitting-is _ _ (p .1 .0) _ _ (p .1 .1) ((c .before .before .before .before .args) .ch) (p .0) (sym ((c .before .fits2) .ensures) ∙ both-left _ _ t) (sym ((c .fits3) .ensures) ∙ both-right _ _ t)
+    fitting-is _ _ (p .1 .0) _ _ (p .1 .1) ((c .before .before .before .before .args) .ch) (p .0) (sym ((c .before .fits2) .ensures) ∙ both-left a b t) (sym ((c .fits3) .ensures) ∙ both-right a b t)
 
 pub fitting-spec : {M : Type 1} → statement M
 fitting-spec = tie.close (tie.spec fits-requires fits-requires-2 returns)
