@@ -10,8 +10,9 @@ ghost use Rattle.stretches.specs.Stretches.{stretch, Within, wordOf, all
 use machine::Generator;
 use machine::Mode;
 
+// The lesser of two.
 pub fn least(a: usize, b: usize) -> usize
-    ensures { λ n. ⌜ (n ≤ a) × ((n ≤ b) × (0 < a → 0 < b → 0 < n)) ⌝ }
+    ensures { λ n. ⌜ (n ≤ a) × ((n ≤ b) × (n < a → n ≡ b)) ⌝ }
 {
     if a < b { a } else { b }
 }

@@ -25,12 +25,6 @@ const PERIOD: usize = 1_023;
 // The chips that are written at once: seven eights, fewer than a word has.
 const BLOCK: usize = 56;
 
-fn least(a: usize, b: usize) -> usize
-    ensures { λ n. ⌜ (n ≤ a) × ((n ≤ b) × (n < a → n ≡ b)) ⌝ }
-{
-    if a < b { a } else { b }
-}
-
 // ---- the first period
 
 // The next 64 chips from i steps on. What a stage of G2 gives, its last stage gives so many steps later as it stands behind it.
@@ -66,7 +60,7 @@ fn write_period(
 {
     let mut i: usize = 0;
     while i < n {
-        let k = least(n - i, BLOCK) as u32;
+        let k = stretches::least(n - i, BLOCK) as u32;
         let word = word_on(ch, stages, g1, g2, i);
         digits::write_word(word, k, spread, &mut out[i..]);
         i += k as usize;
@@ -139,7 +133,7 @@ fn write_by_tables(
     requires { ⌜ count ≤ 65536 ⌝ }
     ensures { λ r. ⌜ (r ≡ advance count ch) × (now (out .exit) ≡ chips count ch ++ drop count (now (out .entry))) ⌝ }
 {
-    let n = least(count, PERIOD);
+    let n = stretches::least(count, PERIOD);
     write_period(ch, stages, n, g1, g2, spread, out);
     repeat(n, count, out);
     let third = ch.third;

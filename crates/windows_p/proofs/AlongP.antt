@@ -26,7 +26,8 @@ use Rattle.stretches.proofs.LawOfRuns.{goes}
 use Rattle.stretches.proofs.Along.{Along, at, at-is, chips-are}
 use Rattle.stretches.proofs.Tables.{table-length, register-there, after-is, fits-is}
 use Rattle.stepped.specs.Inner.{Of}
-use Rattle.windows_p.specs.Runs.{Tables, Fitting, Run, lineBy, lineAlong, chipAlong}
+use Rattle.delay_lines.specs.Lines.{lineBy}
+use Rattle.windows_p.specs.Runs.{Tables, Fitting, Run, lineAlong, chipAlong}
 
 module _ (n : ℕ) (ch : Channel) (run : Run n ch) where
   along : Along (signalP (ch .prn)) n ch (aheadBy x1a (ch .first)) (aheadBy x1b (ch .second)) (aheadBy x2a (ch .third)) (aheadBy x2b (ch .fourth)) (lineAlong ch)

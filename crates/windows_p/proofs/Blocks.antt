@@ -13,32 +13,20 @@ use lib.ListN.{length}
 use Rattle.registers.specs.Register.{stage}
 use Rattle.machine.specs.Generators.{Kind}
 use Rattle.machine.specs.Signals.{x1a, x1b, x2a, x2b}
-use Rattle.machine.specs.declared.Generator.{Generator}
 use Rattle.machine.specs.declared.Channel.{Channel}
 use Rattle.sequences.specs.Sequences.{sequence, Tells}
-use Rattle.stretches.specs.Stretches.{stretch, aheadBy, Within, Tabled}
-use Rattle.stretches.proofs.LawOfRuns.{law-of-runs, room, within, sum-tells}
-use Rattle.stretches.proofs.Tables.{from-start, table-length}
-use Rattle.windows_p.specs.Runs.{delayedWord, Tables, Fits, Fitting, Run, wordAt, chipX2, lineBy, lineAlong, chipAlong}
-use Rattle.windows_p.proofs.DelayedWords.{line-is, delayed-tells, line-later, line-lt}
+use Rattle.stretches.specs.Stretches.{aheadBy, Within, Tabled}
+use Rattle.stretches.proofs.LawOfRuns.{sum-tells}
+use Rattle.stretches.proofs.Tables.{from-start, words-within, words-tell}
+use Rattle.delay_lines.specs.Lines.{delayedWord, lineBy}
+use Rattle.windows_p.specs.Runs.{Tables, Fitting, Run, wordAt, chipX2, lineAlong, chipAlong}
+use Rattle.delay_lines.proofs.DelayedWords.{line-is, delayed-tells, line-later, line-lt}
 
--- ---- one generator of twelve stages, whose cycle ends at phase 4,091 or 4,092
+-- ---- the tables
 
-module _ (k : Kind) (seq : List ℕ) (is : seq ≡ sequence (k .shift) 12 65 (k .start)) (g : Generator) (n i : ℕ)
-    (some : 0 < n) (few : n ≤ 65536) (phase : g .phase < 65536) (last : k .last (g .cycles) ≤ 4092) (long : n ≤ stretch (k .last (g .cycles)) g)
-    (before : i ≤ n)
-    where
-  generator-within : Within g 0 i (length seq)
-  generator-within =
-      rw (is, table-length (k .shift) 12 65 (k .start))
-      (within g 0 (k .last (g .cycles)) n i 65 some long before (omega (arith, few, phase, before)) (omega (arith, last)))
-
-  generator-tells : Fits k g → Tells (wordAt g seq i) 64 (λ j. stage 12 (aheadBy k g (i + j) .register))
-  generator-tells fits =
-      let t : Tabled seq 0 12 (k .shift) (k .start) (k .last (g .cycles))
-      = rw is (from-start (k .shift) 12 65 (k .start) (k .last (g .cycles)) (omega (arith, last))) in
-      law-of-runs seq 0 12 k (k .last (g .cycles)) t g i fits
-      (λ m. omega (arith, room g (k .last (g .cycles)) n i some long before m))
+-- a table of twelve stages, for a cycle that ends at phase 4,091 or 4,092
+tabled : (k : Kind) (seq : List ℕ) → seq ≡ sequence (k .shift) 12 65 (k .start) → (last : ℕ) → last ≤ 4092 → Tabled seq 0 12 (k .shift) (k .start) last
+tabled k seq is last h = rw is (from-start (k .shift) 12 65 (k .start) last (omega (arith, h)))
 
 -- ---- the four
 
@@ -48,19 +36,23 @@ chipX1 ch j = (stage 12 (aheadBy x1a (ch .first) j .register) + stage 12 (aheadB
 module _ (a b c d : List ℕ) (t : Tables a b c d) (n i : ℕ) (ch : Channel) (run : Run n ch) (before : i ≤ n) where
   pub first-within : Within (ch .first) 0 i (length a)
   first-within =
-      generator-within x1a a (t .table-x1a) (ch .first) n i (run .some) (run .few) (run .first-phase) (lit≤ tt) (run .first-stretch) before
+      words-within x1a a 0 12 4091 (tabled x1a a (t .table-x1a) 4091 (lit≤ tt)) (ch .first) n i (run .some)
+      (omega (arith, run .few, run .first-phase)) (run .first-stretch) before
 
   pub second-within : Within (ch .second) 0 i (length b)
   second-within =
-      generator-within x1b b (t .table-x1b) (ch .second) n i (run .some) (run .few) (run .second-phase) (lit≤ tt) (run .second-stretch) before
+      words-within x1b b 0 12 4092 (tabled x1b b (t .table-x1b) 4092 (lit≤ tt)) (ch .second) n i (run .some)
+      (omega (arith, run .few, run .second-phase)) (run .second-stretch) before
 
   pub third-within : Within (ch .third) 0 i (length c)
   third-within =
-      generator-within x2a c (t .table-x2a) (ch .third) n i (run .some) (run .few) (run .third-phase) (lit≤ tt) (run .third-stretch) before
+      words-within x2a c 0 12 4091 (tabled x2a c (t .table-x2a) 4091 (lit≤ tt)) (ch .third) n i (run .some)
+      (omega (arith, run .few, run .third-phase)) (run .third-stretch) before
 
   pub fourth-within : Within (ch .fourth) 0 i (length d)
   fourth-within =
-      generator-within x2b d (t .table-x2b) (ch .fourth) n i (run .some) (run .few) (run .fourth-phase) (lit≤ tt) (run .fourth-stretch) before
+      words-within x2b d 0 12 4092 (tabled x2b d (t .table-x2b) 4092 (lit≤ tt)) (ch .fourth) n i (run .some)
+      (omega (arith, run .few, run .fourth-phase)) (run .fourth-stretch) before
 
   -- the words of X1 and X2
   abbrev pub wordX1 : ℕ
@@ -73,14 +65,18 @@ module _ (a b c d : List ℕ) (t : Tables a b c d) (n i : ℕ) (ch : Channel) (r
     x1-tells : Tells wordX1 64 (λ j. chipX1 ch (i + j))
     x1-tells =
         sum-tells 64 (wordAt (ch .first) a i) (wordAt (ch .second) b i) _ _
-        (generator-tells x1a a (t .table-x1a) (ch .first) n i (run .some) (run .few) (run .first-phase) (lit≤ tt) (run .first-stretch) before (fit .first-fits))
-        (generator-tells x1b b (t .table-x1b) (ch .second) n i (run .some) (run .few) (run .second-phase) (lit≤ tt) (run .second-stretch) before (fit .second-fits))
+        (words-tell x1a a 0 12 4091 (tabled x1a a (t .table-x1a) 4091 (lit≤ tt)) (ch .first) n i (run .some)
+        (omega (arith, run .few, run .first-phase)) (run .first-stretch) before (fit .first-fits))
+        (words-tell x1b b 0 12 4092 (tabled x1b b (t .table-x1b) 4092 (lit≤ tt)) (ch .second) n i (run .some)
+        (omega (arith, run .few, run .second-phase)) (run .second-stretch) before (fit .second-fits))
 
     x2-tells : Tells wordX2 64 (λ j. chipX2 ch (i + j))
     x2-tells =
         sum-tells 64 (wordAt (ch .third) c i) (wordAt (ch .fourth) d i) _ _
-        (generator-tells x2a c (t .table-x2a) (ch .third) n i (run .some) (run .few) (run .third-phase) (lit≤ tt) (run .third-stretch) before (fit .third-fits))
-        (generator-tells x2b d (t .table-x2b) (ch .fourth) n i (run .some) (run .few) (run .fourth-phase) (lit≤ tt) (run .fourth-stretch) before (fit .fourth-fits))
+        (words-tell x2a c 0 12 4091 (tabled x2a c (t .table-x2a) 4091 (lit≤ tt)) (ch .third) n i (run .some)
+        (omega (arith, run .few, run .third-phase)) (run .third-stretch) before (fit .third-fits))
+        (words-tell x2b d 0 12 4092 (tabled x2b d (t .table-x2b) 4092 (lit≤ tt)) (ch .fourth) n i (run .some)
+        (omega (arith, run .few, run .fourth-phase)) (run .fourth-stretch) before (fit .fourth-fits))
 
     module _ (x1 x2 line : ℕ) (x1-is : x1 ≡ wordX1) (x2-is : x2 ≡ wordX2) (x2-in : x2 < 2 ^ 64) (line-so-far : line ≡ lineAlong ch i) where
       x2-word : Tells x2 64 (λ j. chipX2 ch (i + j))

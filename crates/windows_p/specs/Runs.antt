@@ -1,9 +1,8 @@
 -- The runs of P, for the contracts of inner functions: `proofs/AlongP.antt` shows a run to be so many steps of the machine's.
 -- Assumes nothing.
-use Prim.Native.Nat.{ℕ, zero, suc, _+_, _-_, _*_, _/_, _%_, _^_, _<_, _≤_}
+use Prim.Native.Nat.{ℕ, _+_, _-_, _%_, _^_, _<_, _≤_}
 use mathlib.Core.Path.{_≡_}
 use mathlib.Core.List.{List}
-use lib.Bits.{bitOr}
 use Rattle.registers.specs.Times.{times}
 use Rattle.registers.specs.Register.{stage, shiftX1A, shiftX1B, shiftX2A, shiftX2B}
 use Rattle.starts.specs.Starts.{Listed, startX1A, startX1B, startX2A, startX2B}
@@ -12,11 +11,8 @@ use Rattle.machine.specs.Signals.{x1a, x1b, x2a, x2b, weekP}
 use Rattle.machine.specs.declared.Generator.{Generator}
 use Rattle.machine.specs.declared.Channel.{Channel}
 use Rattle.sequences.specs.Sequences.{sequence, wordIn}
+use Rattle.delay_lines.specs.Lines.{lineBy}
 use Rattle.stretches.specs.Stretches.{stretch, aheadBy, wordOf, all}
-
--- the next chips of X2 behind the bits of a delay line, from bit prn - 1 on
-abbrev pub delayedWord : ℕ → ℕ → ℕ → ℕ
-delayedWord line x2 prn = bitOr (line * 2 ^ (64 - prn) % 2 ^ 64) (x2 / 2 ^ prn)
 
 -- the tables of P
 pub record Tables (a b c d : List ℕ) : Type 0 where
@@ -59,11 +55,6 @@ wordAt g words n = wordOf (g .mode) (wordIn words (0 + g .phase + n)) (all (stag
 
 abbrev pub chipX2 : Channel → ℕ → ℕ
 chipX2 ch j = (stage 12 (aheadBy x2a (ch .third) j .register) + stage 12 (aheadBy x2b (ch .fourth) j .register)) % 2
-
--- a delay line that takes in x 0, x 1 ..
-unfoldable pub lineBy : (ℕ → ℕ) → ℕ → ℕ → ℕ
-lineBy x line zero = line
-lineBy x line (suc j) = (lineBy x line j * 2 + x j) % 2 ^ 37
 
 abbrev pub lineAlong : Channel → ℕ → ℕ
 lineAlong ch j = lineBy (chipX2 ch) (ch .delay) j

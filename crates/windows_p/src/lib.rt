@@ -13,30 +13,9 @@ ghost use Rattle.machine.specs.Ranged.{RangedAs};
 ghost use Rattle.digits.specs.Digits.{row, bytesOf};
 ghost use Rattle.stretches.specs.Stretches.{Within};
 ghost use Rattle.stepped.specs.Inner.{Of};
-ghost use Rattle.windows_p.specs.Runs.{delayedWord, Tables, Fitting, Run, wordAt, lineAlong, chipAlong};
+ghost use Rattle.windows_p.specs.Runs.{Tables, Fitting, Run, wordAt, lineAlong, chipAlong};
 use machine::Channel;
 use machine::Generator;
-
-// ---- X2, in the PRN's delay later
-
-// The 64 chips that P takes next of X2: the delay line's last bits, then X2's next chips.
-fn delayed(line: u64, x2: u64, prn: u32) -> u64
-    requires { ⌜ Listed 37 prn ⌝ }
-    ensures { λ r. ⌜ r ≡ delayedWord line x2 prn ⌝ }
-{
-    (line << (64 - prn)) | (x2 >> prn)
-}
-
-// The delay line n chips later, by X2's next chips.
-fn line_after(line: u64, x2: u64, n: u32) -> u64
-    requires { ⌜ 1 ≤ n ⌝ }
-    requires { ⌜ n < 64 ⌝ }
-    ensures { λ r. ⌜ r ≡ (line * 2 ^ n + x2 / 2 ^ (64 - n)) % 2 ^ 37 ⌝ }
-{
-    let kept = (line << n) % machine::LINE_LIMIT;
-    let taken = (x2 >> (64 - n)) % machine::LINE_LIMIT;
-    (kept + taken) % machine::LINE_LIMIT
-}
 
 // ---- a run
 
@@ -75,7 +54,7 @@ fn write_words(
     while i < whole {
         let x1 = both(ch.first, x1a, ch.second, x1b, i);
         let x2 = both(ch.third, x2a, ch.fourth, x2b, i);
-        let word = x1 ^ delayed(line, x2, ch.prn);
+        let word = x1 ^ delay_lines::delayed(line, x2, ch.prn);
         digits::write_whole(word, spread, &mut out[i..]);
         line = x2 % machine::LINE_LIMIT;
         i += 64;
@@ -109,9 +88,9 @@ fn write_run(
     }
     let x1 = both(ch.first, x1a, ch.second, x1b, i);
     let x2 = both(ch.third, x2a, ch.fourth, x2b, i);
-    let word = x1 ^ delayed(line, x2, ch.prn);
+    let word = x1 ^ delay_lines::delayed(line, x2, ch.prn);
     digits::write_word(word, k, spread, &mut out[i..]);
-    line_after(line, x2, k)
+    delay_lines::line_after(line, x2, k)
 }
 
 // Writes the chips of a run, and gives the channel after it.

@@ -2,8 +2,9 @@
 -- Assumes nothing.
 use Rattle.digits.proofs.Rows.{Filled, begun, part-more, ended}
 use Rattle.windows_p.proofs.Blocks.{first-within, second-within, third-within, fourth-within, block-tells, block-line}
-use Rattle.windows_p.proofs.DelayedWords.{line-anew}
-use Rattle.windows_p.specs.Runs.{lineAlong, chipAlong, lineBy}
+use Rattle.delay_lines.proofs.DelayedWords.{line-anew}
+use Rattle.delay_lines.specs.Lines.{lineBy}
+use Rattle.windows_p.specs.Runs.{lineAlong, chipAlong}
 use lib.ListN.{length-take, length-drop}
 use lib.Dec.{lit≤}
 use lib.Bits.{bitXor}

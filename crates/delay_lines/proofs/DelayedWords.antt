@@ -14,7 +14,7 @@ use lib.Dec.{lit<}
 use lib.Pow.{pow-pos, split, pow-add, high, low, field, mod-mod-pow, mod-pow-add, shr-shr, shr-lt, shl-shr}
 use Rattle.registers.specs.Register.{stage}
 use Rattle.sequences.specs.Sequences.{Tells}
-use Rattle.windows_p.specs.Runs.{delayedWord, lineBy}
+use Rattle.delay_lines.specs.Lines.{delayedWord, lineBy}
 
 -- a number divided where a multiple stands before it
 behind : (a m n w : ℕ) → (a * 2 ^ (m + n) + w) / 2 ^ n ≡ a * 2 ^ m + w / 2 ^ n
