@@ -15,26 +15,37 @@ static const uint64_t LINE_ONES = (UINT64_C(1) << LINE_BITS) - 1;
  * anything, so that the fields would else be stored and loaded at every chip.
  */
 
-/* G1 and G2 start together and have the same cycle: one phase serves both. */
+static inline uint64_t next_place(uint64_t place, uint64_t week)
+{
+    return place == week - 1 ? 0 : place + 1;
+}
+
+static inline void step_g(struct generator *g, uint32_t listed)
+{
+    if (g->phase == G_CYCLE - 1) {
+        g->state = G_START;
+        g->phase = 0;
+    } else {
+        g->state = shift_up(g->state, G_STAGES, listed);
+        g->phase++;
+    }
+}
+
 static void step_ca(struct machine *machine, uint8_t *chips, size_t count)
 {
     struct generator g1 = machine->generators[0], g2 = machine->generators[1];
     const unsigned tap1 = machine->code.g2_tap1 - 1, tap2 = machine->code.g2_tap2 - 1;
+    uint64_t place = machine->place;
 
     for (size_t i = 0; i < count; i++) {
         chips[i] = (uint8_t)((g1.state >> (G_STAGES - 1) ^ g2.state >> tap1 ^ g2.state >> tap2) & 1u);
-        if (g1.phase == G_CYCLE - 1) {
-            g1.state = g2.state = G_START;
-            g1.phase = 0;
-        } else {
-            g1.state = shift_up(g1.state, G_STAGES, G1_LISTED);
-            g2.state = shift_up(g2.state, G_STAGES, G2_LISTED);
-            g1.phase++;
-        }
+        step_g(&g1, G1_LISTED);
+        step_g(&g2, G2_LISTED);
+        place = next_place(place, GPS_CHIPS_WEEK_CA);
     }
-    g2.phase = g1.phase;
     machine->generators[0] = g1;
     machine->generators[1] = g2;
+    machine->place = place;
 }
 
 /* What one of P's generators is made of. Those that are never held have 0 for it. */
@@ -82,6 +93,7 @@ static void step_p(struct machine *machine, uint8_t *chips, size_t count)
     struct generator x2a = machine->generators[2], x2b = machine->generators[3];
     uint64_t line = machine->line;
     uint32_t epoch = machine->epoch;
+    uint64_t place = machine->place;
     const unsigned delay_bit = (unsigned)machine->code.prn - 1;
 
     for (size_t i = 0; i < count; i++) {
@@ -97,6 +109,7 @@ static void step_p(struct machine *machine, uint8_t *chips, size_t count)
         step_p_generator(&x1b, &X1B, 0);
         step_p_generator(&x2a, &X2A, week_ends);
         step_p_generator(&x2b, &X2B, week_ends);
+        place = next_place(place, GPS_CHIPS_WEEK_P);
     }
     machine->generators[0] = x1a;
     machine->generators[1] = x1b;
@@ -104,6 +117,7 @@ static void step_p(struct machine *machine, uint8_t *chips, size_t count)
     machine->generators[3] = x2b;
     machine->line = line;
     machine->epoch = epoch;
+    machine->place = place;
 }
 
 static void step_l2(struct machine *machine, uint8_t *chips, size_t count)
@@ -111,6 +125,7 @@ static void step_l2(struct machine *machine, uint8_t *chips, size_t count)
     struct generator g = machine->generators[0];
     const uint32_t start = machine->start;
     const uint32_t last_phase = (uint32_t)code_period(machine->code.signal) - 1;
+    uint64_t place = machine->place;
 
     for (size_t i = 0; i < count; i++) {
         chips[i] = (uint8_t)(g.state & 1u);
@@ -121,8 +136,10 @@ static void step_l2(struct machine *machine, uint8_t *chips, size_t count)
             g.state = shift_l2(g.state);
             g.phase++;
         }
+        place = next_place(place, GPS_CHIPS_WEEK_CM);
     }
     machine->generators[0] = g;
+    machine->place = place;
 }
 
 /* XA and XB run through one whole cycle and the beginning of a second one, both to the period's end. */
@@ -144,14 +161,17 @@ static void step_l5(struct machine *machine, uint8_t *chips, size_t count)
 {
     struct generator xa = machine->generators[0], xb = machine->generators[1];
     const uint32_t xb_start = machine->start;
+    uint64_t place = machine->place;
 
     for (size_t i = 0; i < count; i++) {
         chips[i] = (uint8_t)((xa.state ^ xb.state) >> (L5_STAGES - 1));
         step_l5_generator(&xa, XA_LISTED, L5_START, XA_CYCLE);
         step_l5_generator(&xb, XB_LISTED, xb_start, XB_CYCLE);
+        place = next_place(place, GPS_CHIPS_WEEK_I5);
     }
     machine->generators[0] = xa;
     machine->generators[1] = xb;
+    machine->place = place;
 }
 
 void stepping_chips(struct machine *machine, uint8_t *chips, size_t count)
@@ -163,7 +183,6 @@ void stepping_chips(struct machine *machine, uint8_t *chips, size_t count)
     case GPS_CHIPS_CL: step_l2(machine, chips, count); break;
     default:           step_l5(machine, chips, count); break;
     }
-    machine->place = code_place_after(machine->code.signal, machine->place, count);
 }
 
 /* ---------------------------------------------------------------------- start */

@@ -1,6 +1,8 @@
 /*
- * Plain C stepping: the standards' shift registers, moved chip by chip. This is
- * how the codes are usually made, and what the library's speed is compared with.
+ * Plain C stepping: the standards' shift registers, moved chip by chip, with all
+ * that the stepped machine keeps: phases, cycles, holds, delay line, epoch and
+ * place. This is how the codes are usually made, and what the library's speed is
+ * compared with.
  */
 #ifndef BENCH_STEPPING_H
 #define BENCH_STEPPING_H

@@ -80,17 +80,17 @@ module _ (x : ℕ → ℕ) (line word k : ℕ) (line-in : line < 2 ^ 37) (word-i
       let few : word / 2 ^ prn < 2 ^ n = shr-lt n prn (subst (λ (m : ℕ). word < 2 ^ m) (sym bits) word-in) in
       let left : line * 2 ^ n % 2 ^ 64 ≡ line % 2 ^ prn * 2 ^ n
       = ap (λ (m : ℕ). line * 2 ^ n % 2 ^ m) (sym sum)
-        ∙ mod-pow-add (line * 2 ^ n) prn n
-        ∙ ap₂ (λ (a b : ℕ). a % 2 ^ prn * 2 ^ n + b) (shl-shr line n)
-          (ap (λ (v : ℕ). v % 2 ^ n) (sym (add-zero (line * 2 ^ n))) ∙ low line n (pow-pos n))
-        ∙ add-zero (line % 2 ^ prn * 2 ^ n)
+      ∙ mod-pow-add (line * 2 ^ n) prn n
+      ∙ ap₂ (λ (a b : ℕ). a % 2 ^ prn * 2 ^ n + b) (shl-shr line n)
+      (ap (λ (v : ℕ). v % 2 ^ n) (sym (add-zero (line * 2 ^ n))) ∙ low line n (pow-pos n))
+      ∙ add-zero (line % 2 ^ prn * 2 ^ n)
       in
       let right : whole / 2 ^ prn % 2 ^ 64 ≡ line % 2 ^ prn * 2 ^ n + word / 2 ^ prn
       = ap (λ (m : ℕ). (line * 2 ^ m + word) / 2 ^ prn % 2 ^ 64) (sym bits)
-        ∙ ap (λ (v : ℕ). v % 2 ^ 64) (behind line n prn word)
-        ∙ ap (λ (m : ℕ). (line * 2 ^ n + word / 2 ^ prn) % 2 ^ m) (sym sum)
-        ∙ mod-pow-add (line * 2 ^ n + word / 2 ^ prn) prn n
-        ∙ ap₂ (λ (a b : ℕ). a % 2 ^ prn * 2 ^ n + b) (high line n few) (low line n few)
+      ∙ ap (λ (v : ℕ). v % 2 ^ 64) (behind line n prn word)
+      ∙ ap (λ (m : ℕ). (line * 2 ^ n + word / 2 ^ prn) % 2 ^ m) (sym sum)
+      ∙ mod-pow-add (line * 2 ^ n + word / 2 ^ prn) prn n
+      ∙ ap₂ (λ (a b : ℕ). a % 2 ^ prn * 2 ^ n + b) (high line n few) (low line n few)
       in
       ap (λ (v : ℕ). bitOr v (word / 2 ^ prn)) left ∙ or-shifted (line % 2 ^ prn) n (word / 2 ^ prn) few ∙ sym right
 
@@ -107,5 +107,5 @@ module _ (x : ℕ → ℕ) (line word k : ℕ) (line-in : line < 2 ^ 37) (word-i
       ∙ digit-of (whole / 2 ^ prn) j m 64 (omega (arith, b, k-in))
       ∙ ap (λ (v : ℕ). v % 2) (shr-shr whole prn m ∙ ap (λ (n : ℕ). whole / 2 ^ n) later ∙ sym (shr-shr whole (64 - j) (prn - 1)))
       ∙ sym
-        (ap (λ (v : ℕ). v / 2 ^ (prn - 1) % 2) (line-is j (omega (arith, b)) ∙ ap (λ (v : ℕ). v % 2 ^ 37) so-far)
-        ∙ digit-of (whole / 2 ^ (64 - j)) (37 - prn) (prn - 1) 37 (omega (arith, h, l)))
+      (ap (λ (v : ℕ). v / 2 ^ (prn - 1) % 2) (line-is j (omega (arith, b)) ∙ ap (λ (v : ℕ). v % 2 ^ 37) so-far)
+      ∙ digit-of (whole / 2 ^ (64 - j)) (37 - prn) (prn - 1) 37 (omega (arith, h, l)))

@@ -4,7 +4,7 @@
 --     run-advance, run-chips   where a run comes to, and its chips
 --     more       a loop that writes a window has written a run more
 -- Assumes nothing.
-use Prim.Native.Nat.{ℕ, _+_, _-_, _*_, _%_, _<_, _≤_}
+use Prim.Native.Nat.{ℕ, _+_, _-_, _<_, _≤_}
 use mathlib.Core.Bool.{true, false}
 use mathlib.Core.Path.{_≡_, refl, sym, ap, _∙_, subst}
 use mathlib.Core.List.{List, _++_}
@@ -12,7 +12,6 @@ use native.Mathlib.Nat.{mod-one}
 use native.Mathlib.Omega.{arith}
 use lib.Dec.{T}
 use lib.ListN.{length, take, drop}
-use Rattle.digits.specs.Digits.{row}
 use Rattle.machine.specs.Generators.{Kind, modeInRange}
 use Rattle.machine.specs.Signals.{signalOf, plain, none}
 use Rattle.machine.specs.Machine.{advance, chips}
@@ -22,6 +21,7 @@ use Rattle.machine.specs.declared.Mode.the-variants.{Running, Held}
 use Rattle.machine.specs.declared.Generator.{Generator}
 use Rattle.machine.specs.declared.Channel.{Channel}
 use Rattle.machine.proofs.Running.{lacking-stays}
+use Rattle.digits.specs.Digits.{row}
 use Rattle.stretches.specs.Stretches.{stretchIn, stretch}
 use Rattle.stretches.proofs.LawOfRuns.{Goes}
 use Rattle.stretches.proofs.Along.{Along, at-is, chips-are}
@@ -60,12 +60,12 @@ module _ (week : ℕ) (a b : Kind) (chip : Channel → ℕ) (n : ℕ) (ch : Chan
 
   module _ (named : signalOf (ch .signal) (ch .prn) ≡ plain week a b chip) (r : RangedAs (plain week a b chip) ch) (f : Goes a n (ch .first) first)
       (s : Goes b n (ch .second) second) (one : (j : ℕ) → first j .cycles ≡ ch .first .cycles) (in-week : ch .place + n < week)
-      where
-    pub run-advance : advance n ch ≡ movedBy n (first n) (second n) ch
-    run-advance = at-is (plain week a b chip) n ch first second _ _ _ named (along r f s one in-week) n (omega arith)
+    where
+      pub run-advance : advance n ch ≡ movedBy n (first n) (second n) ch
+      run-advance = at-is (plain week a b chip) n ch first second _ _ _ named (along r f s one in-week) n (omega arith)
 
-    pub run-chips : chips n ch ≡ row (λ j. chip (movedBy j (first j) (second j) ch)) n
-    run-chips = chips-are (plain week a b chip) n ch first second _ _ _ named (along r f s one in-week) n (omega arith)
+      pub run-chips : chips n ch ≡ row (λ j. chip (movedBy j (first j) (second j) ch)) n
+      run-chips = chips-are (plain week a b chip) n ch first second _ _ _ named (along r f s one in-week) n (omega arith)
 
   -- a run in a loop that writes a window
   pub more : (count : ℕ) (old new part : List ℕ) (start next : Channel) (m : ℕ) → SoFar (λ prn. plain week a b chip) count old start new ch m

@@ -38,26 +38,28 @@ first-chips s taps (suc m) p r e h =
     let b = sumOf taps r in
     let rest : f r / 2 ^ suc p ≡ r / 2 ^ p % 2 ^ m
     = ap₂ (λ (k l : ℕ). (r % 2 ^ k * 2 + b) / 2 ^ l) less one-more
-      ∙ sym (shr-shr (r % 2 ^ (m + p) * 2 + b) 1 p)
-      ∙ ap (λ (x : ℕ). x / 2 ^ p) (half (r % 2 ^ (m + p)) b (sumOf-lt taps r))
-      ∙ field r m p
+    ∙ sym (shr-shr (r % 2 ^ (m + p) * 2 + b) 1 p)
+    ∙ ap (λ (x : ℕ). x / 2 ^ p) (half (r % 2 ^ (m + p)) b (sumOf-lt taps r))
+    ∙ field r m p
     in
     let top : stage s r ≡ r / 2 ^ p / 2 ^ m
     = ap (λ (k : ℕ). r / 2 ^ k % 2) less
-      ∙ small (r / 2 ^ (m + p)) (shr-lt 1 (m + p) (subst (λ (k : ℕ). r < 2 ^ k) (omega (arith, e)) h))
-      ∙ ap (λ (k : ℕ). r / 2 ^ k) (omega arith)
-      ∙ sym (shr-shr r p m)
+    ∙ small (r / 2 ^ (m + p)) (shr-lt 1 (m + p) (subst (λ (k : ℕ). r < 2 ^ k) (omega (arith, e)) h))
+    ∙ ap (λ (k : ℕ). r / 2 ^ k) (omega arith)
+    ∙ sym (shr-shr r p m)
     in
     given-behind f s m (f r) (0 * 2 + stage s r)
     ∙ ap₂ (λ (x y : ℕ). (0 * 2 + x) * 2 ^ m + y) top
-      (first-chips s taps m (suc p) (f r) (omega (arith, e)) (shift-lt s taps r (omega (arith, e))) ∙ rest)
+    (first-chips s taps m (suc p) (f r) (omega (arith, e)) (shift-lt s taps r (omega (arith, e))) ∙ rest)
     ∙ ap (λ (x : ℕ). x * 2 ^ m + r / 2 ^ p % 2 ^ m) (plain (r / 2 ^ p / 2 ^ m))
     ∙ split (r / 2 ^ p) m
   where
     half : (x b : ℕ) → b < 2 → (x * 2 + b) / 2 ≡ x
     half x b h = omega arith
+
     small : (x : ℕ) → x < 2 → x % 2 ≡ x
     small x h = omega arith
+
     plain : (x : ℕ) → 0 * 2 + x ≡ x
     plain x = omega arith
 

@@ -7,8 +7,7 @@
 -- Assumes nothing.
 use Prim.Native.Nat.{ℕ, zero, suc, _+_, _-_, _*_, _/_, _%_, _^_, _<_, _≤_}
 use mathlib.Core.Path.{_≡_, refl, sym, ap, ap₂, _∙_, subst}
-use mathlib.Core.List.{List, [], _∷_}
-use native.Mathlib.Nat.{zero-add, zero-mul, add-zero, mul-one, mul-assoc, mul-comm, pow-suc, mod-lt, mod-eq-of-lt, div-add-mod', suc-add, lt-of-lt-of-le}
+use native.Mathlib.Nat.{zero-add, add-zero, mul-one, pow-suc, mod-lt, suc-add, lt-of-lt-of-le}
 use native.Mathlib.Omega.{arith}
 use lib.Bits.{bitOr, or-shifted}
 use lib.Dec.{lit<}
@@ -102,10 +101,10 @@ module _ (f : ℕ → ℕ) (s : ℕ) where
       let powers : 2 ^ 64 ≡ 2 ^ m * 2 ^ e = ap (λ (k : ℕ). 2 ^ k) (sym swapped) ∙ pow-add 2 m e in
       let first : given f s 64 r 0 * 2 ^ e % 2 ^ 64 ≡ later * 2 ^ e
       = ap (λ (k : ℕ). given f s k r 0 * 2 ^ e % 2 ^ 64) (sym whole)
-        ∙ ap (λ (x : ℕ). x * 2 ^ e % 2 ^ 64) (given-parts e m r)
-        ∙ ap (λ (x : ℕ). x % 2 ^ 64) (regroup (given f s e r 0) (2 ^ m) later (2 ^ e))
-        ∙ ap (λ (x : ℕ). (given f s e r 0 * x + later * 2 ^ e) % 2 ^ 64) (sym powers)
-        ∙ low (given f s e r 0) 64 (subst (λ (k : ℕ). later * 2 ^ e < 2 ^ k) swapped (shl-lt m e (given-lt m (times f e r))))
+      ∙ ap (λ (x : ℕ). x * 2 ^ e % 2 ^ 64) (given-parts e m r)
+      ∙ ap (λ (x : ℕ). x % 2 ^ 64) (regroup (given f s e r 0) (2 ^ m) later (2 ^ e))
+      ∙ ap (λ (x : ℕ). (given f s e r 0 * x + later * 2 ^ e) % 2 ^ 64) (sym powers)
+      ∙ low (given f s e r 0) 64 (subst (λ (k : ℕ). later * 2 ^ e < 2 ^ k) swapped (shl-lt m e (given-lt m (times f e r))))
       in
       let second : given f s 64 (times f 64 r) 0 / 2 ^ m ≡ next
       = ap (λ (k : ℕ). given f s k (times f 64 r) 0 / 2 ^ m) (sym whole) ∙ given-first e m (times f 64 r)
@@ -133,7 +132,7 @@ module _ (f : ℕ → ℕ) (s : ℕ) where
       ap₂ (λ (x y : ℕ). bitOr (x * 2 ^ e % 2 ^ 64) y) (entry n i r (omega arith))
       (halves (getD (sequence f s n r) (i + 1) 0)
       ∙ ap (λ (x : ℕ). x / 2 ^ (64 - e))
-        (entry n (i + 1) r h
-        ∙ ap (λ (x : ℕ). given f s 64 x 0) (ap (λ (k : ℕ). times f k r) next ∙ times-add f (64 * i) 64 r)))
+      (entry n (i + 1) r h
+      ∙ ap (λ (x : ℕ). given f s 64 x 0) (ap (λ (k : ℕ). times f k r) next ∙ times-add f (64 * i) 64 r)))
       ∙ joined e (64 - e) (times f (64 * i) r) (omega arith)
       ∙ ap (λ (x : ℕ). given f s 64 x 0) (sym (times-add f (64 * i) e r) ∙ ap (λ (k : ℕ). times f k r) at)

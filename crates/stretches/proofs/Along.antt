@@ -3,15 +3,15 @@
 --     chips-are  the chips of those steps
 -- Assumes nothing.
 use Prim.Native.Nat.{ℕ, zero, suc, _+_, _-_, _<_, _≤_}
-use mathlib.Core.Bool.{true, false, cond, _&&_}
+use mathlib.Core.Bool.{false, cond, _&&_}
 use mathlib.Core.Path.{_≡_, refl, sym, ap, ap₂, _∙_}
 use mathlib.Core.List.{List, [], _∷_, _++_}
-use native.Mathlib.Nat.{add-zero, add-suc}
+use native.Mathlib.Nat.{add-zero}
 use native.Mathlib.Numerals.{add-one}
 use native.Mathlib.Omega.{arith}
 use lib.Dec.{eqb, ltb}
 use borrow.Author.Tests.{lt-ltb, ne-eqb}
-use Rattle.machine.specs.Generators.{stepGenerator, upTo}
+use Rattle.machine.specs.Generators.{upTo}
 use Rattle.machine.specs.Signals.{Signal, signalOf}
 use Rattle.machine.specs.Machine.{nextEpoch, atWeekEnd, nextLine, stepWith, stepAs, step, chip, advance, chips}
 use Rattle.machine.specs.declared.Generator.{Generator}
@@ -43,61 +43,61 @@ pub record Along (s : Signal) (n : ℕ) (ch : Channel) (first second third fourt
 
 module _ (s : Signal) (n : ℕ) (ch : Channel) (first second third fourth : ℕ → Generator) (line : ℕ → ℕ)
     (named : signalOf (ch .signal) (ch .prn) ≡ s) (along : Along s n ch first second third fourth line)
-    where
-  -- the channel j steps on
-  abbrev pub at : ℕ → Channel
-  at j =
-      record {
-        signal = ch .signal;
-        prn = ch .prn;
-        place = ch .place + j;
-        epoch = ch .epoch;
-        delay = line j;
-        first = first j;
-        second = second j;
-        third = third j;
-        fourth = fourth j;
-      }
+  where
+    -- the channel j steps on
+    abbrev pub at : ℕ → Channel
+    at j =
+        record {
+          signal = ch .signal;
+          prn = ch .prn;
+          place = ch .place + j;
+          epoch = ch .epoch;
+          delay = line j;
+          first = first j;
+          second = second j;
+          third = third j;
+          fourth = fourth j;
+        }
 
-  at-start : at 0 ≡ ch
-  at-start i =
-      record {
-        signal = ch .signal;
-        prn = ch .prn;
-        place = add-zero (ch .place) i;
-        epoch = ch .epoch;
-        delay = along .line-starts i;
-        first = along .first-goes .starts i;
-        second = along .second-goes .starts i;
-        third = along .third-goes .starts i;
-        fourth = along .fourth-goes .starts i;
-      }
+    at-start : at 0 ≡ ch
+    at-start i =
+        record {
+          signal = ch .signal;
+          prn = ch .prn;
+          place = add-zero (ch .place) i;
+          epoch = ch .epoch;
+          delay = along .line-starts i;
+          first = along .first-goes .starts i;
+          second = along .second-goes .starts i;
+          third = along .third-goes .starts i;
+          fourth = along .fourth-goes .starts i;
+        }
 
-  at-next : (j : ℕ) → j < n → stepAs s (at j) ≡ at (suc j)
-  at-next j h =
-      let one = along .first-goes .steps false j h in
-      let last = s .lastEpoch in
-      let cycles : first (suc j) .cycles ≡ first j .cycles = along .one-cycle (suc j) ∙ sym (along .one-cycle j) in
-      let epoch : nextEpoch last (first j) (first (suc j)) (ch .epoch) ≡ ch .epoch
-      = ap (λ (c : ℕ). cond (ltb 0 (first j .cycles) && eqb c 0) (upTo last (ch .epoch)) (ch .epoch)) cycles
+    at-next : (j : ℕ) → j < n → stepAs s (at j) ≡ at (suc j)
+    at-next j h =
+        let one = along .first-goes .steps false j h in
+        let last = s .lastEpoch in
+        let cycles : first (suc j) .cycles ≡ first j .cycles = along .one-cycle (suc j) ∙ sym (along .one-cycle j) in
+        let epoch : nextEpoch last (first j) (first (suc j)) (ch .epoch) ≡ ch .epoch
+        = ap (λ (c : ℕ). cond (ltb 0 (first j .cycles) && eqb c 0) (upTo last (ch .epoch)) (ch .epoch)) cycles
         ∙ sym (same-epoch last (first j .cycles) (ch .epoch))
-      in
-      let place : upTo (s .week - 1) (ch .place + j) ≡ ch .place + suc j
-      = sym (next-place (s .week - 1) (ch .place + j) (omega (arith, h, along .in-week))) ∙ omega arith
-      in
-      let moved : (e : ℕ) → stepWith s (first (suc j)) e (at j)
-          ≡ record {
-            signal = ch .signal;
-            prn = ch .prn;
-            place = ch .place + suc j;
-            epoch = e;
-            delay = line (suc j);
-            first = first (suc j);
-            second = second (suc j);
-            third = third (suc j);
-            fourth = fourth (suc j);
-          }
-      = λ e i.
+        in
+        let place : upTo (s .week - 1) (ch .place + j) ≡ ch .place + suc j
+        = sym (next-place (s .week - 1) (ch .place + j) (omega (arith, h, along .in-week))) ∙ omega arith
+        in
+        let moved : (e : ℕ) → stepWith s (first (suc j)) e (at j)
+        ≡ record {
+          signal = ch .signal;
+          prn = ch .prn;
+          place = ch .place + suc j;
+          epoch = e;
+          delay = line (suc j);
+          first = first (suc j);
+          second = second (suc j);
+          third = third (suc j);
+          fourth = fourth (suc j);
+        }
+        = λ e i.
         let flag = atWeekEnd (first (suc j)) e in
         record {
           signal = ch .signal;
@@ -110,21 +110,21 @@ module _ (s : Signal) (n : ℕ) (ch : Channel) (first second third fourth : ℕ 
           third = along .third-goes .steps flag j h i;
           fourth = along .fourth-goes .steps flag j h i;
         }
-      in
-      ap (λ (g : Generator). stepWith s g (nextEpoch last (first j) g (ch .epoch)) (at j)) one
-      ∙ ap (λ (e : ℕ). stepWith s (first (suc j)) e (at j)) epoch
-      ∙ moved (ch .epoch)
+        in
+        ap (λ (g : Generator). stepWith s g (nextEpoch last (first j) g (ch .epoch)) (at j)) one
+        ∙ ap (λ (e : ℕ). stepWith s (first (suc j)) e (at j)) epoch
+        ∙ moved (ch .epoch)
 
-  pub at-is : (j : ℕ) → j ≤ n → advance j ch ≡ at j
-  at-is zero h = advance-none ch ∙ sym at-start
-  at-is (suc j) h =
-      advance-last j ch ∙ ap step (at-is j (omega (arith, h))) ∙ step-is (at j) named ∙ at-next j (omega (arith, h))
+    pub at-is : (j : ℕ) → j ≤ n → advance j ch ≡ at j
+    at-is zero h = advance-none ch ∙ sym at-start
+    at-is (suc j) h =
+        advance-last j ch ∙ ap step (at-is j (omega (arith, h))) ∙ step-is (at j) named ∙ at-next j (omega (arith, h))
 
-  pub chips-are : (j : ℕ) → j ≤ n → chips j ch ≡ row (λ i. s .chip (at i)) j
-  unfolding chips row
-  chips-are zero h = refl
-  chips-are (suc j) h =
-      ap (λ (k : ℕ). chips k ch) (sym (add-one j))
-      ∙ chips-add j 1 ch
-      ∙ ap₂ (λ (l m : List ℕ). l ++ m) (chips-are j (omega (arith, h)))
+    pub chips-are : (j : ℕ) → j ≤ n → chips j ch ≡ row (λ i. s .chip (at i)) j
+    unfolding chips row
+    chips-are zero h = refl
+    chips-are (suc j) h =
+        ap (λ (k : ℕ). chips k ch) (sym (add-one j))
+        ∙ chips-add j 1 ch
+        ∙ ap₂ (λ (l m : List ℕ). l ++ m) (chips-are j (omega (arith, h)))
         (ap (chips 1) (at-is j (omega (arith, h))) ∙ chips-one (at j) ∙ ap (λ (b : ℕ). b ∷ []) (chip-is (at j) named))

@@ -5,12 +5,11 @@
 --     within        where the words of a stretch are read
 --     sum-tells     the digits of two words added bit by bit are the sums of their digits modulo 2
 -- Assumes nothing.
-use Prim.Native.Nat.{ℕ, zero, suc, _+_, _-_, _*_, _/_, _%_, _^_, _<_, _≤_}
+use Prim.Native.Nat.{ℕ, zero, suc, _+_, _-_, _/_, _%_, _^_, _<_, _≤_}
 use mathlib.Core.Bool.{Bool, true, false}
 use mathlib.Core.Path.{_≡_, refl, sym, ap, ap₂, _∙_, subst}
 use mathlib.Core.List.{List}
-use native.Mathlib.Nat.{add-zero, add-suc}
-use native.Mathlib.Numerals.{add-one}
+use native.Mathlib.Nat.{add-zero}
 use native.Mathlib.Omega.{arith}
 use lib.Bits.{bitXor, xor-shr}
 use lib.Dec.{T}
@@ -21,7 +20,7 @@ use Rattle.registers.proofs.Repeat.{times-add, times-last}
 use Rattle.registers.proofs.Xor.{low, xor-low}
 use Rattle.registers.proofs.Below.{equal-at}
 use Rattle.registers.proofs.Shifts.{sum-digit, stage-lt}
-use Rattle.machine.specs.Generators.{Kind, stepIn, stepGenerator}
+use Rattle.machine.specs.Generators.{Kind, stepGenerator}
 use Rattle.machine.specs.declared.Mode.{Mode}
 use Rattle.machine.specs.declared.Mode.the-variants.{Running, Held}
 use Rattle.machine.specs.declared.Generator.{Generator}
@@ -77,15 +76,15 @@ all-tells (suc (suc b)) h j l = absurd (omega (arith, h))
 module _ (seq : List ℕ) (from s : ℕ) (k : Kind) (last : ℕ) (t : Tabled seq from s (k .shift) (k .start) last) where
   in-mode : (m : Mode) (r p c n : ℕ) → r ≡ times (k .shift) p (k .start) → (m ≡ Running → p + n ≤ last)
       → Tells (wordOf m (wordIn seq (from + p + n)) (all (stage s r))) 64
-        (λ i. stage s (aheadBy k (record { register = r; phase = p; cycles = c; mode = m }) (n + i) .register))
+      (λ i. stage s (aheadBy k (record { register = r; phase = p; cycles = c; mode = m }) (n + i) .register))
   in-mode Running r p c n fit room i l =
       let f = k .shift in
       ap (λ (q : ℕ). wordIn seq q / 2 ^ (63 - i) % 2) (omega arith)
       ∙ t .tells (p + n) (room refl) i l
       ∙ ap (stage s)
-        (ap (λ (q : ℕ). times f q (k .start)) (omega arith)
-        ∙ times-add f p (n + i) (k .start)
-        ∙ ap (times f (n + i)) (sym fit))
+      (ap (λ (q : ℕ). times f q (k .start)) (omega arith)
+      ∙ times-add f p (n + i) (k .start)
+      ∙ ap (times f (n + i)) (sym fit))
   in-mode (Held h) r p c n fit room i l = all-tells (stage s r) (stage-lt s r) i l
 
   pub law-of-runs : (g : Generator) (n : ℕ) → g .register ≡ times (k .shift) (g .phase) (k .start) → (g .mode ≡ Running → g .phase + n ≤ last)

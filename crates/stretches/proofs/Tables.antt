@@ -8,11 +8,10 @@
 --     fits-is         what the test of a register tells
 --     words-within, words-tell   the words of a stretch, and their digits
 -- Assumes nothing.
-use Prim.Native.Nat.{ℕ, zero, suc, _+_, _-_, _*_, _/_, _%_, _^_, _<_, _≤_}
+use Prim.Native.Nat.{ℕ, zero, suc, _+_, _-_, _/_, _^_, _<_, _≤_}
 use mathlib.Core.Path.{_≡_, refl, sym, ap, _∙_}
 use mathlib.Core.List.{List}
 use mathlib.Core.Bool.{true}
-use native.Mathlib.Nat.{zero-add}
 use native.Mathlib.Omega.{arith}
 use lib.Dec.{eqb}
 use lib.ListN.{length}
@@ -20,12 +19,12 @@ use borrow.Author.Tests.{eqb-true}
 use Rattle.registers.specs.Times.{times}
 use Rattle.registers.specs.Register.{stage, shift}
 use Rattle.registers.proofs.Repeat.{times-add}
-use Rattle.sequences.specs.Sequences.{sequence, wordIn, Tells}
-use Rattle.sequences.proofs.Chips.{word-tells, register-is, inner-stage}
 use Rattle.machine.specs.Generators.{Kind}
 use Rattle.machine.specs.declared.Mode.{Mode}
 use Rattle.machine.specs.declared.Mode.the-variants.{Running, Held}
 use Rattle.machine.specs.declared.Generator.{Generator}
+use Rattle.sequences.specs.Sequences.{sequence, wordIn, Tells}
+use Rattle.sequences.proofs.Chips.{word-tells, register-is, inner-stage}
 use Rattle.stretches.specs.Stretches.{stretch, ahead, aheadBy, wordOf, all, Within, Tabled}
 use Rattle.stretches.proofs.LawOfRuns.{law-of-runs, room, within}
 
@@ -71,40 +70,40 @@ module _ (s : ℕ) (taps : List ℕ) (n : ℕ) where
 
 module _ (k : Kind) (seq : List ℕ) (from s last : ℕ)
     (registers : (q : ℕ) → q ≤ last → wordIn seq (from + q) / 2 ^ (64 - s) ≡ times (k .shift) q (k .start))
-    where
-  by-mode : (m : Mode) (r p c n : ℕ) → r ≡ times (k .shift) p (k .start) → (m ≡ Running → p + n < last)
-      → ahead (wordIn seq (from + p + n) / 2 ^ (64 - s)) n (record { register = r; phase = p; cycles = c; mode = m })
-      ≡ aheadBy k (record { register = r; phase = p; cycles = c; mode = m }) n
-  by-mode Running r p c n fit near =
-      let there : from + p + n ≡ from + (p + n) = omega arith in
-      let shifted : wordIn seq (from + p + n) / 2 ^ (64 - s) ≡ times (k .shift) n r
-      = ap (λ (q : ℕ). wordIn seq q / 2 ^ (64 - s)) there
+  where
+    by-mode : (m : Mode) (r p c n : ℕ) → r ≡ times (k .shift) p (k .start) → (m ≡ Running → p + n < last)
+        → ahead (wordIn seq (from + p + n) / 2 ^ (64 - s)) n (record { register = r; phase = p; cycles = c; mode = m })
+        ≡ aheadBy k (record { register = r; phase = p; cycles = c; mode = m }) n
+    by-mode Running r p c n fit near =
+        let there : from + p + n ≡ from + (p + n) = omega arith in
+        let shifted : wordIn seq (from + p + n) / 2 ^ (64 - s) ≡ times (k .shift) n r
+        = ap (λ (q : ℕ). wordIn seq q / 2 ^ (64 - s)) there
         ∙ registers (p + n) (omega (arith, near refl))
         ∙ times-add (k .shift) p n (k .start)
         ∙ ap (times (k .shift) n) (sym fit)
-      in
-      ap (λ (x : ℕ). record { register = x; phase = p + n; cycles = c; mode = Running }) shifted
-  by-mode (Held h) r p c n fit near = refl
+        in
+        ap (λ (x : ℕ). record { register = x; phase = p + n; cycles = c; mode = Running }) shifted
+    by-mode (Held h) r p c n fit near = refl
 
-  -- the register that is read is that of so many shifts
-  pub after-is : (g : Generator) (n : ℕ) → g .register ≡ times (k .shift) (g .phase) (k .start) → 0 < n → n ≤ stretch last g
-      → ahead (wordIn seq (from + g .phase + n) / 2 ^ (64 - s)) n g ≡ aheadBy k g n
-  after-is g n fit some long =
-      by-mode (g .mode) (g .register) (g .phase) (g .cycles) n fit (room g last n n some long (omega arith))
+    -- the register that is read is that of so many shifts
+    pub after-is : (g : Generator) (n : ℕ) → g .register ≡ times (k .shift) (g .phase) (k .start) → 0 < n → n ≤ stretch last g
+        → ahead (wordIn seq (from + g .phase + n) / 2 ^ (64 - s)) n g ≡ aheadBy k g n
+    after-is g n fit some long =
+        by-mode (g .mode) (g .register) (g .phase) (g .cycles) n fit (room g last n n some long (omega arith))
 
-  -- the test of a register, where it passes
-  pub fits-is : (g : Generator) → g .phase ≤ last → eqb (wordIn seq (from + g .phase) / 2 ^ (64 - s)) (g .register) ≡ true
-      → g .register ≡ times (k .shift) (g .phase) (k .start)
-  fits-is g h t = sym (eqb-true _ _ t) ∙ registers (g .phase) h
+    -- the test of a register, where it passes
+    pub fits-is : (g : Generator) → g .phase ≤ last → eqb (wordIn seq (from + g .phase) / 2 ^ (64 - s)) (g .register) ≡ true
+        → g .register ≡ times (k .shift) (g .phase) (k .start)
+    fits-is g h t = sym (eqb-true _ _ t) ∙ registers (g .phase) h
 
 -- ---- the words of a stretch
 
 module _ (k : Kind) (seq : List ℕ) (from s last : ℕ) (t : Tabled seq from s (k .shift) (k .start) last) (g : Generator) (n i : ℕ)
     (some : 0 < n) (few : from + g .phase + n < 2 ^ 32) (long : n ≤ stretch last g) (before : i ≤ n)
-    where
-  pub words-within : Within g from i (length seq)
-  words-within = within g from last n i (length seq) some long before (omega (arith, few, before)) (t .long)
+  where
+    pub words-within : Within g from i (length seq)
+    words-within = within g from last n i (length seq) some long before (omega (arith, few, before)) (t .long)
 
-  pub words-tell : g .register ≡ times (k .shift) (g .phase) (k .start)
-      → Tells (wordOf (g .mode) (wordIn seq (from + g .phase + i)) (all (stage s (g .register)))) 64 (λ j. stage s (aheadBy k g (i + j) .register))
-  words-tell fits = law-of-runs seq from s k last t g i fits (λ m. omega (arith, room g last n i some long before m))
+    pub words-tell : g .register ≡ times (k .shift) (g .phase) (k .start)
+        → Tells (wordOf (g .mode) (wordIn seq (from + g .phase + i)) (all (stage s (g .register)))) 64 (λ j. stage s (aheadBy k g (i + j) .register))
+    words-tell fits = law-of-runs seq from s k last t g i fits (λ m. omega (arith, room g last n i some long before m))

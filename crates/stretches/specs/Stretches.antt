@@ -3,6 +3,7 @@
 use Prim.Native.Nat.{ℕ, _+_, _-_, _*_, _/_, _<_, _≤_, _^_}
 use mathlib.Core.Path.{_≡_}
 use mathlib.Core.List.{List}
+use lib.ListN.{length}
 use Rattle.registers.specs.Times.{times}
 use Rattle.registers.specs.Register.{stage}
 use Rattle.machine.specs.Generators.{Kind}
@@ -10,7 +11,6 @@ use Rattle.machine.specs.declared.Mode.{Mode}
 use Rattle.machine.specs.declared.Mode.the-variants.{Running, Held}
 use Rattle.machine.specs.declared.Generator.{Generator}
 use Rattle.sequences.specs.Sequences.{wordIn, Tells}
-use lib.ListN.{length}
 
 -- running, the steps before the last phase of the cycle; held, those before it is let go
 abbrev pub stretchIn : Mode → ℕ → ℕ → ℕ

@@ -11,7 +11,7 @@ use machine::Channel;
 pub const MOST_CHIPS: u64 = 65_536;
 
 // A window that is shorter than this is stepped: the tables are not worth while.
-const SHORT: usize = 48;
+const SHORT: usize = 32;
 
 // Writes the chips of `count` steps from a channel in range, by the tables of its signal.
 fn write_by_tables(ch: Channel, count: usize, out: &mut [u8]) -> Channel

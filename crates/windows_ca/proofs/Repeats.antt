@@ -8,8 +8,8 @@ use mathlib.Core.Path.{_≡_, refl, sym, ap, _∙_}
 use mathlib.Core.List.{List, _++_}
 use native.Mathlib.Omega.{arith}
 use lib.ListN.{length, getD, drop, set, length-append, length-drop, length-set, List·getD-append}
-use Rattle.digits.specs.Digits.{row}
 use Rattle.digits.proofs.Rows as rows
+use Rattle.digits.specs.Digits.{row}
 use Rattle.windows_ca.specs.Periods.{Repeated}
 
 -- copied as far as i: whatever numbers the slice had as far as `from`, if they come again, it has them as far as i

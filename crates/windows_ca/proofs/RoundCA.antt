@@ -32,8 +32,8 @@ use Rattle.machine.proofs.Advance.{advance-none, advance-last}
 use Rattle.machine.proofs.Chips.{chips-one, chips-add}
 use Rattle.machine.proofs.Numbered.{step-is, chip-is}
 use Rattle.machine.proofs.Running.{lacking-stays}
-use Rattle.digits.specs.Digits.{row}
 use Rattle.sequences.specs.Sequences.{sequence, wordIn}
+use Rattle.digits.specs.Digits.{row}
 use Rattle.stretches.proofs.Tables.{table-length, register-there, fits-is}
 use Rattle.stepped.specs.Inner.{Of}
 use Rattle.windows_ca.specs.Periods.{Tables, Fitting, Readable, chipOn, inCycle}

@@ -13,8 +13,8 @@ use Rattle.machine.specs.Signals.{g1, g2}
 use Rattle.machine.specs.declared.Mode.the-variants.{Running}
 use Rattle.machine.specs.declared.Generator.{Generator}
 use Rattle.machine.specs.declared.Channel.{Channel}
-use Rattle.digits.specs.Digits.{row}
 use Rattle.sequences.specs.Sequences.{sequence}
+use Rattle.digits.specs.Digits.{row}
 
 -- the tables of C/A
 pub record Tables (a b : List ℕ) : Type 0 where

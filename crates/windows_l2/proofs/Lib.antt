@@ -1,1 +1,1 @@
-pub mod RunsOfSixteens
+pub mod RunsOfTwentyFours

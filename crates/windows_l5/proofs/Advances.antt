@@ -1,11 +1,10 @@
 -- The start of XB is the advance of Table 3-I: so the standard's definition says, and the code's table is that of the definition.
 --     advanced-i5, advanced-q5   the advance of a PRN
 -- Assumes nothing.
-use Prim.Native.Nat.{ℕ, _-_, _<_}
-use mathlib.Core.Bool.{Bool}
-use mathlib.Core.Path.{_≡_, refl}
+use Prim.Native.Nat.{ℕ, _-_}
+use mathlib.Core.Path.{refl}
 use native.Mathlib.Omega.{arith}
-use lib.Dec.{T, ltb, ltb→lt}
+use lib.Dec.{ltb, ltb→lt}
 use lib.ListN.{getD}
 use Rattle.registers.proofs.Below.{at}
 use Rattle.starts.specs.Starts.{Listed, entryOf, advancesI5, advancesQ5, advancedXB, startI5, startQ5}

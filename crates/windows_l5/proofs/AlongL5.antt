@@ -7,7 +7,7 @@
 -- Assumes nothing.
 use Prim.Native.Nat.{ℕ, _+_, _-_, _/_, _^_, _<_, _≤_}
 use mathlib.Core.Bool.{true}
-use mathlib.Core.Path.{_≡_, refl, sym, ap, ap₂, _∙_, subst}
+use mathlib.Core.Path.{_≡_, refl, sym, ap, ap₂, _∙_}
 use mathlib.Core.List.{List}
 use native.Mathlib.Omega.{arith}
 use lib.Dec.{eqb, lit<, lit≤}
@@ -15,14 +15,13 @@ use lib.ListN.{length}
 use Rattle.registers.specs.Times.{times}
 use Rattle.registers.specs.Register.{shift, shiftXA, shiftXB, tapsXA, tapsXB}
 use Rattle.starts.specs.Starts.{startXA}
-use Rattle.machine.specs.Generators.{Kind}
 use Rattle.machine.specs.Signals.{xa, xb, weekL5, fromL5, chipL5}
 use Rattle.machine.specs.Machine.{advance, chips}
 use Rattle.machine.specs.Ranged.{RangedAs}
 use Rattle.machine.specs.declared.Generator.{Generator}
 use Rattle.machine.specs.declared.Channel.{Channel}
+use Rattle.sequences.specs.Sequences.{wordIn}
 use Rattle.digits.specs.Digits.{row}
-use Rattle.sequences.specs.Sequences.{sequence, wordIn}
 use Rattle.stretches.specs.Stretches.{stretch, ahead, aheadBy}
 use Rattle.stretches.proofs.LawOfRuns.{goes}
 use Rattle.stretches.proofs.Tables.{table-length, register-there, after-is, fits-is}

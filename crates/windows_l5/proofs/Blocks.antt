@@ -3,21 +3,18 @@
 --     block-tells                   the digits of the sum are the chips
 -- Assumes nothing.
 use Prim.Native.Nat.{ℕ, _+_, _-_, _/_, _%_, _^_, _<_, _≤_}
-use mathlib.Core.Bool.{true, false, cond}
-use mathlib.Core.Path.{_≡_, sym, ap, _∙_, subst}
+use mathlib.Core.Path.{_≡_}
 use mathlib.Core.List.{List}
 use native.Mathlib.Omega.{arith}
 use lib.Bits.{bitXor}
 use lib.Dec.{eqb, lit≤}
 use lib.ListN.{length}
-use Rattle.registers.specs.Times.{times}
 use Rattle.registers.specs.Register.{stage, shiftXA, shiftXB}
 use Rattle.starts.specs.Starts.{startXA}
 use Rattle.machine.specs.Signals.{xa, xb}
 use Rattle.machine.specs.declared.Channel.{Channel}
 use Rattle.machine.proofs.Tests.{chosen}
-use Rattle.sequences.specs.Sequences.{sequence, Tells}
-use Rattle.stretches.specs.Stretches.{stretch, aheadBy, Within, Tabled}
+use Rattle.stretches.specs.Stretches.{aheadBy, Within, Tabled}
 use Rattle.stretches.proofs.LawOfRuns.{sum-tells}
 use Rattle.stretches.proofs.Tables.{from-start, from-earlier, words-within, words-tell}
 use Rattle.windows_l5.specs.Runs.{Advanced, Tables, Fitting, Run, wordAt, chipAlong}

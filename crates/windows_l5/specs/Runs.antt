@@ -6,7 +6,6 @@ use mathlib.Core.List.{List}
 use Rattle.registers.specs.Times.{times}
 use Rattle.registers.specs.Register.{stage, shiftXA, shiftXB}
 use Rattle.starts.specs.Starts.{startXA}
-use Rattle.machine.specs.Generators.{Kind}
 use Rattle.machine.specs.Signals.{xa, xb, weekL5}
 use Rattle.machine.specs.declared.Generator.{Generator}
 use Rattle.machine.specs.declared.Channel.{Channel}

@@ -141,7 +141,10 @@ fn run_of(ch: Channel, start: u32, most: usize) -> usize
     let first = stretches::stretch_of(ch.first, last_xa) as usize;
     let second = stretches::stretch_of(ch.second, last_xb) as usize;
     let week = (machine::WEEK_L5 - 1 - ch.place) as usize;
-    stretches::least(stretches::least(first, second), stretches::least(week, most))
+    stretches::least(
+        stretches::least(first, second),
+        stretches::least(week, most),
+    )
 }
 
 // Whether each register is the one of its phase.
@@ -160,14 +163,7 @@ fn fitting(ch: Channel, start: u32, xa: &[u64], xb: &[u64], from: usize) -> bool
 const SHORT_RUN: usize = 8;
 
 // The steps of the run that is taken from the tables here: none where it is short, or a register is not the one of its phase.
-fn run_by_tables(
-    ch: Channel,
-    start: u32,
-    most: usize,
-    xa: &[u64],
-    xb: &[u64],
-    from: usize,
-) -> usize
+fn run_by_tables(ch: Channel, start: u32, most: usize, xa: &[u64], xb: &[u64], from: usize) -> usize
     requires { ⌜ RangedAs (fromL5 start) ch ⌝ }
     requires { ⌜ Tables (now xa) (now xb) ⌝ }
     requires { ⌜ Advanced from start ⌝ }

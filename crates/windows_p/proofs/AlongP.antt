@@ -18,15 +18,15 @@ use Rattle.machine.specs.Machine.{advance, chips}
 use Rattle.machine.specs.Ranged.{RangedAs}
 use Rattle.machine.specs.declared.Generator.{Generator}
 use Rattle.machine.specs.declared.Channel.{Channel}
-use Rattle.digits.specs.Digits.{row}
 use Rattle.sequences.specs.Sequences.{sequence, wordIn}
+use Rattle.digits.specs.Digits.{row}
 use Rattle.stretches.specs.Stretches.{ahead, aheadBy}
 use Rattle.stretches.proofs.Arrivals.{x1b-runs-on, x2a-runs-on, x2b-runs-on}
 use Rattle.stretches.proofs.LawOfRuns.{goes}
 use Rattle.stretches.proofs.Along.{Along, at, at-is, chips-are}
 use Rattle.stretches.proofs.Tables.{table-length, register-there, after-is, fits-is}
-use Rattle.stepped.specs.Inner.{Of}
 use Rattle.delay_lines.specs.Lines.{lineBy}
+use Rattle.stepped.specs.Inner.{Of}
 use Rattle.windows_p.specs.Runs.{Tables, Fitting, Run, lineAlong, chipAlong}
 
 module _ (n : ℕ) (ch : Channel) (run : Run n ch) where
@@ -108,16 +108,16 @@ module _ (a b c d : List ℕ) (t : Tables a b c d) where
         → third ≡ ahead (wordIn c (0 + ch .third .phase + n) / 2 ^ (64 - 12)) n (ch .third)
         → fourth ≡ ahead (wordIn d (0 + ch .fourth .phase + n) / 2 ^ (64 - 12)) n (ch .fourth)
         → record {
-            signal = ch .signal;
-            prn = ch .prn;
-            place = ch .place + n;
-            epoch = ch .epoch;
-            delay = line;
-            first = first;
-            second = second;
-            third = third;
-            fourth = fourth;
-          }
+          signal = ch .signal;
+          prn = ch .prn;
+          place = ch .place + n;
+          epoch = ch .epoch;
+          delay = line;
+          first = first;
+          second = second;
+          third = third;
+          fourth = fourth;
+        }
         ≡ advance n ch
     channel-is line first second third fourth line-is first-is second-is third-is fourth-is =
         let one = first-is ∙ after-is x1a a 0 12 4091 registers-x1a (ch .first) n (fit .first-fits) (run .some) (run .first-stretch) in
@@ -125,29 +125,29 @@ module _ (a b c d : List ℕ) (t : Tables a b c d) where
         let three = third-is ∙ after-is x2a c 0 12 4091 registers-x2a (ch .third) n (fit .third-fits) (run .some) (run .third-stretch) in
         let four = fourth-is ∙ after-is x2b d 0 12 4092 registers-x2b (ch .fourth) n (fit .fourth-fits) (run .some) (run .fourth-stretch) in
         let all : Path Channel
-            (record {
-              signal = ch .signal;
-              prn = ch .prn;
-              place = ch .place + n;
-              epoch = ch .epoch;
-              delay = line;
-              first = first;
-              second = second;
-              third = third;
-              fourth = fourth;
-            })
-            (there n ch run of n)
+        (record {
+          signal = ch .signal;
+          prn = ch .prn;
+          place = ch .place + n;
+          epoch = ch .epoch;
+          delay = line;
+          first = first;
+          second = second;
+          third = third;
+          fourth = fourth;
+        })
+        (there n ch run of n)
         = λ i.
-          record {
-            signal = ch .signal;
-            prn = ch .prn;
-            place = ch .place + n;
-            epoch = ch .epoch;
-            delay = line-is i;
-            first = one i;
-            second = two i;
-            third = three i;
-            fourth = four i;
-          }
+        record {
+          signal = ch .signal;
+          prn = ch .prn;
+          place = ch .place + n;
+          epoch = ch .epoch;
+          delay = line-is i;
+          first = one i;
+          second = two i;
+          third = three i;
+          fourth = four i;
+        }
         in
         all ∙ sym (run-advance n ch run of)

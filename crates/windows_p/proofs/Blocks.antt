@@ -19,8 +19,8 @@ use Rattle.stretches.specs.Stretches.{aheadBy, Within, Tabled}
 use Rattle.stretches.proofs.LawOfRuns.{sum-tells}
 use Rattle.stretches.proofs.Tables.{from-start, words-within, words-tell}
 use Rattle.delay_lines.specs.Lines.{delayedWord, lineBy}
-use Rattle.windows_p.specs.Runs.{Tables, Fitting, Run, wordAt, chipX2, lineAlong, chipAlong}
 use Rattle.delay_lines.proofs.DelayedWords.{line-is, delayed-tells, line-later, line-lt}
+use Rattle.windows_p.specs.Runs.{Tables, Fitting, Run, wordAt, chipX2, lineAlong, chipAlong}
 
 -- ---- the tables
 

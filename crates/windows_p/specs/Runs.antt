@@ -11,8 +11,8 @@ use Rattle.machine.specs.Signals.{x1a, x1b, x2a, x2b, weekP}
 use Rattle.machine.specs.declared.Generator.{Generator}
 use Rattle.machine.specs.declared.Channel.{Channel}
 use Rattle.sequences.specs.Sequences.{sequence, wordIn}
-use Rattle.delay_lines.specs.Lines.{lineBy}
 use Rattle.stretches.specs.Stretches.{stretch, aheadBy, wordOf, all}
+use Rattle.delay_lines.specs.Lines.{lineBy}
 
 -- the tables of P
 pub record Tables (a b c d : List ℕ) : Type 0 where

@@ -210,16 +210,7 @@ fn write_by_runs(
     while written < count {
         let n = run_by_tables(here, count - written, x1a, x1b, x2a, x2b);
         if 0 < n {
-            here = go_along(
-                here,
-                n,
-                x1a,
-                x1b,
-                x2a,
-                x2b,
-                spread,
-                &mut out[written..],
-            );
+            here = go_along(here, n, x1a, x1b, x2a, x2b, spread, &mut out[written..]);
             written += n;
         } else {
             out[written] = steps::chip_p(here);

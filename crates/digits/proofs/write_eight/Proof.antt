@@ -1,35 +1,32 @@
 -- `digits::write_eight` meets its contract.
 -- Assumes nothing.
-use Rattle.digits.proofs.Eights.{has-256, entry-byte}
-use Rattle.digits.proofs.Rows.{Filled, begun, one-more, ended}
-use Rattle.digits.specs.Digits.{row, digit, bytesOf}
-use lib.ListN.{length, getD}
-use mathlib.Core.List.{List}
-use mathlib.Core.Path.{ap, _∙_}
-use Prim.Native.Nat.{ℕ, _-_, _*_, _/_, _%_, _^_}
+use Prim.Native.Nat.{_-_}
 use native.Mathlib.Omega.{arith}
 use borrow.Author.Needs.{needs}
+use Rattle.digits.specs.Digits.{digit}
+use Rattle.digits.proofs.Eights.{has-256, entry-byte}
+use Rattle.digits.proofs.Rows.{Filled, begun, one-more, ended}
 use Rattle.digits.proofs.write_eight.Statement.{statement}
 use Rattle.digits.proofs.write_eight.Tie as tie
 
 abbrev Inv-loop : tie.InvT-loop
 Inv-loop eight spread out₀ bytes j₀ out j =
- Filled (digit 8 eight) 8 out₀ out j
+    Filled (digit 8 eight) 8 out₀ out j
 
 abbrev μ-loop : tie.MeasureT-loop
 μ-loop eight spread out₀ bytes j₀ out j =
- 8 - j
+    8 - j
 
 mul-bytes : tie.Need-mul-bytes Inv-loop μ-loop
 mul-bytes c = omega arith
 
 shared-slice-read-bytes : tie.Need-shared-slice-read-bytes Inv-loop μ-loop
 shared-slice-read-bytes c =
- omega (arith, has-256 _ ((c .before .pre) .1 .0), (c .before .pre) .0)
+    omega (arith, has-256 _ ((c .before .pre) .1 .0), (c .before .pre) .0)
 
 loop-holds : tie.Need-loop-holds Inv-loop μ-loop
 loop-holds c =
- begun _ _ _ ((c .before .pre) .1 .1)
+    begun _ _ _ ((c .before .pre) .1 .1)
 
 mul-out : tie.Need-mul-out Inv-loop μ-loop
 mul-out c = omega arith
@@ -57,14 +54,14 @@ loop-less c = omega arith
 
 loop-again : tie.Need-loop-again Inv-loop μ-loop
 loop-again c =
- one-more _ _ _ _ _ _ ((c .before .loop) .inv) (omega arith) (entry-byte _ ((c .before .before .before .pre) .1 .0) _ ((c .before .before .before .pre) .0) _ (omega arith))
+    one-more _ _ _ _ _ _ ((c .before .loop) .inv) (omega arith) (entry-byte _ ((c .before .before .before .pre) .1 .0) _ ((c .before .before .before .pre) .0) _ (omega arith))
 
 same-length : tie.Need-same-length Inv-loop μ-loop
 same-length c = search needs
 
 returns : tie.Need-returns Inv-loop μ-loop
 returns c =
- ended _ _ _ _ _ ((c .before .loop) .inv) (omega arith)
+    ended _ _ _ _ _ ((c .before .loop) .inv) (omega arith)
 
 pub write-eight-spec : {M : Type 1} → statement M
 write-eight-spec =

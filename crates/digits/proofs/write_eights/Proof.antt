@@ -1,27 +1,27 @@
 -- `digits::write_eights` meets its contract.
 -- Assumes nothing.
+use Prim.Native.Nat.{_+_, _-_, _*_}
+use mathlib.Core.Path.{_≡_, subst}
+use native.Mathlib.Omega.{arith}
+use lib.ListN.{length-take, length-drop}
+use borrow.Author.Needs.{needs}
+use Rattle.digits.specs.Digits.{digit}
 use Rattle.digits.proofs.Eights.{in-word}
 use Rattle.digits.proofs.Rows.{Filled, begun, part-more, ended}
-use Rattle.digits.specs.Digits.{digit}
-use lib.ListN.{length-take, length-drop}
-use mathlib.Core.Path.{_≡_, subst}
-use Prim.Native.Nat.{ℕ, _+_, _-_, _*_}
-use native.Mathlib.Omega.{arith}
-use borrow.Author.Needs.{needs}
 use Rattle.digits.proofs.write_eights.Statement.{statement}
 use Rattle.digits.proofs.write_eights.Tie as tie
 
 abbrev Inv-loop : tie.InvT-loop
 Inv-loop word eights spread out₀ n₀ out n =
- Filled (digit 64 word) (eights * 8) out₀ out (n * 8)
+    Filled (digit 64 word) (eights * 8) out₀ out (n * 8)
 
 abbrev μ-loop : tie.MeasureT-loop
 μ-loop word eights spread out₀ n₀ out n =
- eights - n
+    eights - n
 
 loop-holds : tie.Need-loop-holds Inv-loop μ-loop
 loop-holds c =
- begun _ _ _ ((c .before .before .pre) .1 .1)
+    begun _ _ _ ((c .before .before .pre) .1 .1)
 
 mul-eight : tie.Need-mul-eight Inv-loop μ-loop
 mul-eight c = omega arith
@@ -46,14 +46,14 @@ sub-write-eight c = omega arith
 
 part-write-eight-start : tie.Need-part-write-eight-start Inv-loop μ-loop
 part-write-eight-start c =
- omega arith
+    omega arith
 
 part-write-eight-end : tie.Need-part-write-eight-end Inv-loop μ-loop
 part-write-eight-end c = search needs
 
 write-eight-requires : tie.Need-write-eight-requires Inv-loop μ-loop
 write-eight-requires c κs =
- (omega arith, ((c .before .before .before .before .before .pre) .1 .0, simp (length-take, length-drop) (omega arith)))
+    (omega arith, ((c .before .before .before .before .before .pre) .1 .0, simp (length-take, length-drop) (omega arith)))
 
 add-n : tie.Need-add-n Inv-loop μ-loop
 add-n c = omega arith

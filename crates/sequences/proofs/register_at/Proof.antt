@@ -3,8 +3,8 @@
 use Prim.Native.Nat.{ℕ, _-_, _/_, _^_, _<_}
 use mathlib.Core.Path.{ap}
 use native.Mathlib.Omega.{arith}
-use Rattle.sequences.proofs.Words.{top-lt}
 use borrow.Author.Needs.{needs}
+use Rattle.sequences.proofs.Words.{top-lt}
 use Rattle.sequences.proofs.register_at.Statement.{statement}
 use Rattle.sequences.proofs.register_at.Tie as tie
 

@@ -1,8 +1,8 @@
 -- `sequences::word_at` meets its contract.
 -- Assumes nothing.
 use mathlib.Core.Path.{refl}
-use Rattle.sequences.specs.Sequences.{wordIn}
 use borrow.Author.Needs.{needs}
+use Rattle.sequences.specs.Sequences.{wordIn}
 use Rattle.sequences.proofs.word_at.Statement.{statement}
 use Rattle.sequences.proofs.word_at.Tie as tie
 

@@ -1,6 +1,5 @@
 -- `stretches::after` meets its contract.
 -- Assumes nothing.
-use mathlib.Core.Path.{refl}
 use borrow.Author.Needs.{needs}
 use Rattle.stretches.proofs.after.Statement.{statement}
 use Rattle.stretches.proofs.after.Tie as tie
@@ -19,7 +18,7 @@ add-register-at-2 c = search needs
 
 register-at-requires : tie.Need-register-at-requires
 register-at-requires c κs =
- ((c .before .before .before .before .pre) .0 .in-table ((c .before .enum-told) .given .1), ((c .before .before .before .before .pre) .1 .0, (c .before .before .before .before .pre) .1 .1 .0))
+    ((c .before .before .before .before .pre) .0 .in-table ((c .before .enum-told) .given .1), ((c .before .before .before .before .pre) .1 .0, (c .before .before .before .before .pre) .1 .1 .0))
 
 cast-t13 : tie.Need-cast-t13
 cast-t13 c = search needs
@@ -35,15 +34,15 @@ cast-t16 c = search needs
 
 sub-t17 : tie.Need-sub-t17
 sub-t17 c =
- (c .before .before .before .before .pre) .0 .still-held _ ((c .before .mode) .given .1)
+    (c .before .before .before .before .pre) .0 .still-held _ ((c .before .mode) .given .1)
 
 returns : tie.Need-returns
 returns c =
- rw ((c .before .before .before .enum-told) .given .1, (c .before .register-at) .ensures)
+    rw ((c .before .before .before .enum-told) .given .1, (c .before .register-at) .ensures)
 
 returns-2 : tie.Need-returns-2
 returns-2 c =
- rw ((c .before .mode) .given .1)
+    rw ((c .before .mode) .given .1)
 
 pub after-spec : {M : Type 1} → statement M
 after-spec =

@@ -1,8 +1,8 @@
 -- `stretches::fits` meets its contract.
 -- Assumes nothing.
-use lib.Dec.{eqb}
-use mathlib.Core.Path.{ap}
 use Prim.Native.Nat.{ℕ}
+use mathlib.Core.Path.{ap}
+use lib.Dec.{eqb}
 use borrow.Author.Needs.{needs}
 use Rattle.stretches.proofs.fits.Statement.{statement}
 use Rattle.stretches.proofs.fits.Tie as tie
@@ -18,7 +18,7 @@ register-at-requires c κs = search needs
 
 returns : tie.Need-returns
 returns c =
- ap (λ (x : ℕ). eqb x ((c .before .before .before .before .args) .g .register)) ((c .before .register-at) .ensures)
+    ap (λ (x : ℕ). eqb x ((c .before .before .before .before .args) .g .register)) ((c .before .register-at) .ensures)
 
 pub fits-spec : {M : Type 1} → statement M
 fits-spec = tie.close (tie.spec cast-register-at add-register-at register-at-requires returns)

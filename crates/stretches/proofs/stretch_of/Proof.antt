@@ -19,11 +19,11 @@ enum-known-mode c = search needs
 
 returns : tie.Need-returns
 returns c =
- rw ((c .before .before .before .enum-told) .given .1)
+    rw ((c .before .before .before .enum-told) .given .1)
 
 returns-2 : tie.Need-returns-2
 returns-2 c =
- rw ((c .before .before .enum-told) .given .1) (omega arith)
+    rw ((c .before .before .enum-told) .given .1) (omega arith)
 
 returns-3 : tie.Need-returns-3
 returns-3 c = search needs

@@ -1,8 +1,7 @@
 -- `stretches::word_of` meets its contract.
 -- Assumes nothing.
-use Rattle.registers.specs.Register.{stage}
-use mathlib.Core.Path.{refl}
 use borrow.Author.Needs.{needs}
+use Rattle.registers.specs.Register.{stage}
 use Rattle.stretches.proofs.word_of.Statement.{statement}
 use Rattle.stretches.proofs.word_of.Tie as tie
 
@@ -20,7 +19,7 @@ add-word-at-2 c = search needs
 
 word-at-requires : tie.Need-word-at-requires
 word-at-requires c κs =
- (c .before .before .before .before .pre) .0 .in-table ((c .before .enum-told) .given .1)
+    (c .before .before .before .before .pre) .0 .in-table ((c .before .enum-told) .given .1)
 
 enum-told-2 : tie.Need-enum-told-2
 enum-told-2 c = search needs
@@ -39,12 +38,12 @@ mul-result c = search needs
 
 returns : tie.Need-returns
 returns c =
- rw ((c .before .before .enum-told) .given .1) ((c .word-at) .ensures)
+    rw ((c .before .before .enum-told) .given .1) ((c .word-at) .ensures)
 
 returns-2 : tie.Need-returns-2
 unfolding stage
 returns-2 c =
- rw ((c .before .enum-told2) .given .1)
+    rw ((c .before .enum-told2) .given .1)
 
 pub word-of-spec : {M : Type 1} → statement M
 word-of-spec =

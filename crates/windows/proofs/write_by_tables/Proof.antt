@@ -1,10 +1,10 @@
 -- `windows::write_by_tables` meets its contract.
 -- Assumes nothing.
-use Rattle.stepped.proofs.ChipsSoFar.{of-signal}
-use Rattle.machine.proofs.Numbered.{is-ca, is-p, is-cm, is-cl, is-i5, is-q5, is-sixth}
-use Rattle.machine.specs.Signals.{signalCA, signalP, fromCM, fromCL}
 use mathlib.Core.Path.{sym, ap, _∙_}
 use borrow.Author.Needs.{needs}
+use Rattle.machine.proofs.Numbered.{is-ca, is-p, is-cm, is-cl, is-i5, is-q5, is-sixth}
+use Rattle.machine.specs.Signals.{signalCA, signalP, fromCM, fromCL}
+use Rattle.stepped.proofs.ChipsSoFar.{of-signal}
 use Rattle.windows.proofs.write_by_tables.Statement.{statement}
 use Rattle.windows.proofs.write_by_tables.Tie as tie
 

@@ -5,7 +5,6 @@ use native.Mathlib.Omega.{arith}
 use lib.Dec.{lit≤}
 use Rattle.machine.proofs.Tests.{both-left, both-right}
 use Rattle.windows_ca.proofs.RoundCA.{lengths, fitting-is}
-use borrow.Author.Needs.{needs}
 use Rattle.windows_ca.proofs.fitting.Statement.{statement}
 use Rattle.windows_ca.proofs.fitting.Tie as tie
 

@@ -1,9 +1,9 @@
 -- `windows_ca::repeat` meets its contract.
 -- Assumes nothing.
 use Prim.Native.Nat.{_-_}
-use Rattle.windows_ca.proofs.Repeats.{Copied, begun, one-more, ended}
 use native.Mathlib.Omega.{arith}
 use borrow.Author.Needs.{needs}
+use Rattle.windows_ca.proofs.Repeats.{Copied, begun, one-more, ended}
 use Rattle.windows_ca.proofs.repeat.Statement.{statement}
 use Rattle.windows_ca.proofs.repeat.Tie as tie
 

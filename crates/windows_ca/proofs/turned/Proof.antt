@@ -2,8 +2,8 @@
 -- Assumes nothing.
 use Prim.Native.Nat.{ℕ, _+_, _%_}
 use mathlib.Core.Path.{ap}
-use Rattle.windows_ca.specs.Periods.{inCycle}
 use borrow.Author.Needs.{needs}
+use Rattle.windows_ca.specs.Periods.{inCycle}
 use Rattle.windows_ca.proofs.turned.Statement.{statement}
 use Rattle.windows_ca.proofs.turned.Tie as tie
 

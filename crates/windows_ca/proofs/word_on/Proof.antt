@@ -1,14 +1,14 @@
 -- `windows_ca::word_on` meets its contract.
 -- Assumes nothing.
 use Prim.Native.Nat.{ℕ, _+_}
-use native.Mathlib.Omega.{arith}
 use mathlib.Core.Path.{sym, ap₂, subst}
+use native.Mathlib.Omega.{arith}
 use lib.Bits.{bitXor}
+use borrow.Author.Needs.{needs}
 use Rattle.sequences.specs.Sequences.{Tells}
 use Rattle.windows_ca.specs.Periods.{chipOn}
 use Rattle.windows_ca.proofs.WordsCA.{word-chips}
 use Rattle.windows_ca.proofs.RoundCA.{lengths}
-use borrow.Author.Needs.{needs}
 use Rattle.windows_ca.proofs.word_on.Statement.{statement}
 use Rattle.windows_ca.proofs.word_on.Tie as tie
 

@@ -1,12 +1,12 @@
 -- `windows_ca::write_by_tables` meets its contract.
 -- Assumes nothing.
-use native.Mathlib.Omega.{arith}
 use mathlib.Core.Path.{sym, ap, _∙_}
 use mathlib.Core.List.{_++_}
+use native.Mathlib.Omega.{arith}
 use lib.ListN.{drop}
+use borrow.Author.Needs.{needs}
 use Rattle.windows_ca.specs.Periods.{chipOn}
 use Rattle.windows_ca.proofs.RoundCA.{chips-on, chip-again, readable, lengths, channel-is}
-use borrow.Author.Needs.{needs}
 use Rattle.windows_ca.proofs.write_by_tables.Statement.{statement}
 use Rattle.windows_ca.proofs.write_by_tables.Tie as tie
 

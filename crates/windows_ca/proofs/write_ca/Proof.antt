@@ -1,7 +1,7 @@
 -- `windows_ca::write_ca` meets its contract.
 -- Assumes nothing.
-use Rattle.windows_ca.specs.Periods.{Tables}
 use borrow.Author.Needs.{needs}
+use Rattle.windows_ca.specs.Periods.{Tables}
 use Rattle.windows_ca.proofs.write_ca.Statement.{statement}
 use Rattle.windows_ca.proofs.write_ca.Tie as tie
 

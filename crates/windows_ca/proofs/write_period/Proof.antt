@@ -1,12 +1,12 @@
 -- `windows_ca::write_period` meets its contract.
 -- Assumes nothing.
-use mathlib.Core.Path.{_≡_}
 use Prim.Native.Nat.{ℕ, zero, suc, _-_, _<_}
-use lib.ListN.{length-take, length-drop}
-use Rattle.windows_ca.specs.Periods.{chipOn}
-use Rattle.digits.proofs.Rows.{Filled, begun, part-more, ended}
+use mathlib.Core.Path.{_≡_}
 use native.Mathlib.Omega.{arith}
+use lib.ListN.{length-take, length-drop}
 use borrow.Author.Needs.{needs}
+use Rattle.digits.proofs.Rows.{Filled, begun, part-more, ended}
+use Rattle.windows_ca.specs.Periods.{chipOn}
 use Rattle.windows_ca.proofs.write_period.Statement.{statement}
 use Rattle.windows_ca.proofs.write_period.Tie as tie
 

@@ -1,8 +1,8 @@
 -- `windows_l5::advance_i5` meets its contract.
 -- Assumes nothing.
-use Rattle.windows_l5.proofs.Advances.{advanced-i5}
-use Rattle.starts.specs.Starts.{advancesI5}
 use borrow.Author.Needs.{needs}
+use Rattle.starts.specs.Starts.{advancesI5}
+use Rattle.windows_l5.proofs.Advances.{advanced-i5}
 use Rattle.windows_l5.proofs.advance_i5.Statement.{statement}
 use Rattle.windows_l5.proofs.advance_i5.Tie as tie
 
@@ -18,7 +18,7 @@ array-read-result c = search needs
 returns : tie.Need-returns
 unfolding advancesI5
 returns c =
- advanced-i5 ((c .args) .prn) (c .pre)
+    advanced-i5 ((c .args) .prn) (c .pre)
 
 pub advance-i5-spec : {M : Type 1} → statement M
 advance-i5-spec = tie.close (tie.spec sub-result mul-result array-read-result returns)

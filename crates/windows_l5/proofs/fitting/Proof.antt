@@ -1,13 +1,12 @@
 -- `windows_l5::fitting` meets its contract.
 -- Assumes nothing.
+use Prim.Native.Nat.{_≤_}
+use mathlib.Core.Path.{sym, _∙_}
+use native.Mathlib.Omega.{arith}
+use lib.Dec.{lit≤}
+use Rattle.machine.proofs.Tests.{both-left, both-right}
 use Rattle.windows_l5.proofs.AlongL5.{room-xa, room-xb, fitting-is}
 use Rattle.windows_l5.proofs.Blocks.{last-xa, last-xb}
-use Rattle.machine.proofs.Tests.{both-left, both-right}
-use lib.Dec.{lit≤}
-use native.Mathlib.Omega.{arith}
-use mathlib.Core.Path.{sym, _∙_}
-use Prim.Native.Nat.{_≤_}
-use borrow.Author.Needs.{needs}
 use Rattle.windows_l5.proofs.fitting.Statement.{statement}
 use Rattle.windows_l5.proofs.fitting.Tie as tie
 

@@ -1,14 +1,14 @@
 -- `windows_l5::go_along` meets its contract.
 -- Assumes nothing.
-use Rattle.windows_l5.proofs.AlongL5.{chips-is, channel-is}
-use Rattle.windows_l5.proofs.Blocks.{first-within, second-within}
+use Prim.Native.Nat.{_+_, _≤_}
+use mathlib.Core.List.{_++_}
+use mathlib.Core.Path.{sym, ap, _∙_}
+use native.Mathlib.Omega.{arith}
 use lib.ListN.{drop}
 use lib.Dec.{lit≤}
-use native.Mathlib.Omega.{arith}
-use mathlib.Core.List.{List, _++_}
-use mathlib.Core.Path.{sym, ap, _∙_}
-use Prim.Native.Nat.{_+_, _≤_}
 use borrow.Author.Needs.{needs}
+use Rattle.windows_l5.proofs.AlongL5.{chips-is, channel-is}
+use Rattle.windows_l5.proofs.Blocks.{first-within, second-within}
 use Rattle.windows_l5.proofs.go_along.Statement.{statement}
 use Rattle.windows_l5.proofs.go_along.Tie as tie
 
@@ -29,7 +29,7 @@ after-requires-2 c κs =
 
 move-by-requires : tie.Need-move-by-requires
 move-by-requires c κs =
- (c .before .before .before .before .before .before .before .before .before .before .pre) .1 .1 .1 .1 .1 .0 .week
+    (c .before .before .before .before .before .before .before .before .before .before .pre) .1 .1 .1 .1 .1 .0 .week
 
 same-length : tie.Need-same-length
 same-length c = search needs

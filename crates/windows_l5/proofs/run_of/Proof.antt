@@ -1,11 +1,11 @@
 -- `windows_l5::run_of` meets its contract.
 -- Assumes nothing.
-use Rattle.windows_l5.proofs.AlongL5.{run-is}
-use Rattle.stretches.specs.Stretches.{stretch}
-use native.Mathlib.Omega.{arith}
-use mathlib.Core.Path.{ap, _∙_}
 use Prim.Native.Nat.{ℕ}
+use mathlib.Core.Path.{ap, _∙_}
+use native.Mathlib.Omega.{arith}
 use borrow.Author.Needs.{needs}
+use Rattle.stretches.specs.Stretches.{stretch}
+use Rattle.windows_l5.proofs.AlongL5.{run-is}
 use Rattle.windows_l5.proofs.run_of.Statement.{statement}
 use Rattle.windows_l5.proofs.run_of.Tie as tie
 
@@ -48,13 +48,14 @@ returns c =
     let p = (c .before .before .before .before .before .before .before .before .pre) in
     let all = (c .least3) .ensures in
     let two = (c .before .before .least) .ensures in
-    let rest = (c .before .least2) .ensures in
-    (omega (arith, all .1 .0, rest .1 .0),
-     λ some.
-     run-is _ _ ch _ _ _ (p .0)
-     ((c .before .before .before .before .before .stretch-of) .ensures ∙ ap (λ (l : ℕ). stretch l (ch .first)) ((c .before .before .before .before .before .before .before .last-xa) .ensures))
-     ((c .before .before .before .before .stretch-of2) .ensures ∙ ap (λ (l : ℕ). stretch l (ch .second)) ((c .before .before .before .before .before .before .last-xb) .ensures))
-     (p .1) (omega (arith, all .0, two .0)) (omega (arith, all .0, two .1 .0)) (omega (arith, all .1 .0, rest .0, p .0 .place-in)) (omega (arith, all .1 .0, rest .1 .0)) some)
+    let rest = (c .before .least2) .ensures in (
+      omega (arith, all .1 .0, rest .1 .0),
+      λ some.
+          run-is _ _ ch _ _ _ (p .0)
+          ((c .before .before .before .before .before .stretch-of) .ensures ∙ ap (λ (l : ℕ). stretch l (ch .first)) ((c .before .before .before .before .before .before .before .last-xa) .ensures))
+          ((c .before .before .before .before .stretch-of2) .ensures ∙ ap (λ (l : ℕ). stretch l (ch .second)) ((c .before .before .before .before .before .before .last-xb) .ensures))
+          (p .1) (omega (arith, all .0, two .0)) (omega (arith, all .0, two .1 .0)) (omega (arith, all .1 .0, rest .0, p .0 .place-in)) (omega (arith, all .1 .0, rest .1 .0)) some,
+    )
 
 pub run-of-spec : {M : Type 1} → statement M
 run-of-spec =

@@ -1,23 +1,22 @@
 -- `windows_l5::write_by_runs` meets its contract.
 -- Assumes nothing.
-use Rattle.windows_l5.specs.Runs.{Tables}
-use Rattle.stepped.proofs.ChipsSoFar.{SoFar, begun, one-more, part-more, ended}
-use Rattle.machine.specs.Signals.{fromL5}
-use lib.ListN.{length-take, length-drop}
-use mathlib.Core.Path.{_≡_}
-use Prim.Native.Nat.{_-_, _≤_}
+use Prim.Native.Nat.{_-_}
 use native.Mathlib.Omega.{arith}
+use lib.ListN.{length-take, length-drop}
 use borrow.Author.Needs.{needs}
+use Rattle.machine.specs.Signals.{fromL5}
+use Rattle.stepped.proofs.ChipsSoFar.{SoFar, begun, one-more, part-more, ended}
+use Rattle.windows_l5.specs.Runs.{Tables}
 use Rattle.windows_l5.proofs.write_by_runs.Statement.{statement}
 use Rattle.windows_l5.proofs.write_by_runs.Tie as tie
 
 abbrev Inv-loop : tie.InvT-loop
 Inv-loop start from count spread out₀ xa xb here₀ written₀ out here written =
- SoFar (λ prn. fromL5 start) count out₀ here₀ out here written
+    SoFar (λ prn. fromL5 start) count out₀ here₀ out here written
 
 abbrev μ-loop : tie.MeasureT-loop
 μ-loop start from count spread out₀ xa xb here₀ written₀ out here written =
- count - written
+    count - written
 
 xa-requires : tie.Need-xa-requires Inv-loop μ-loop
 xa-requires c κs = search needs
@@ -27,7 +26,7 @@ xb-requires c κs = search needs
 
 loop-holds : tie.Need-loop-holds Inv-loop μ-loop
 loop-holds c =
- begun _ _ _ _ ((c .before .before .before .before .pre) .0) ((c .before .before .before .before .pre) .1 .1 .1 .0)
+    begun _ _ _ _ ((c .before .before .before .before .pre) .0) ((c .before .before .before .before .pre) .1 .1 .1 .0)
 
 sub-run-by-tables : tie.Need-sub-run-by-tables Inv-loop μ-loop
 sub-run-by-tables c = omega arith
@@ -67,11 +66,11 @@ go-along-requires c κs =
 
 add-written : tie.Need-add-written Inv-loop μ-loop
 add-written c =
- omega (arith, (c .before .before .before .before .before .before .before .run-by-tables) .ensures .0, (c .before .before .before .before .before .before .before .before .before .before .before .before .before .before .before .before .pre) .1 .1 .1 .1, (c .before .before .before .before .before .before .before .before .before .before .before .loop) .inv .bound)
+    omega (arith, (c .before .before .before .before .before .before .before .run-by-tables) .ensures .0, (c .before .before .before .before .before .before .before .before .before .before .before .before .before .before .before .before .pre) .1 .1 .1 .1, (c .before .before .before .before .before .before .before .before .before .before .before .loop) .inv .bound)
 
 loop-less : tie.Need-loop-less Inv-loop μ-loop
 loop-less c =
- omega (arith, (c .before .before .before .before .before .before .before .run-by-tables) .ensures .0, (c .before .before .before .before .before .before .before .before .before .before .before .loop) .inv .bound)
+    omega (arith, (c .before .before .before .before .before .before .before .run-by-tables) .ensures .0, (c .before .before .before .before .before .before .before .before .before .before .before .loop) .inv .bound)
 
 loop-again : tie.Need-loop-again Inv-loop μ-loop
 loop-again c =
@@ -90,21 +89,21 @@ step-l5-requires c κs = search needs
 
 add-written-2 : tie.Need-add-written-2 Inv-loop μ-loop
 add-written-2 c =
- omega (arith, (c .before .before .before .before .before .before .before .before .before .before .before .before .pre) .1 .1 .1 .1, (c .before .before .before .before .before .before .before .loop) .inv .bound)
+    omega (arith, (c .before .before .before .before .before .before .before .before .before .before .before .before .pre) .1 .1 .1 .1, (c .before .before .before .before .before .before .before .loop) .inv .bound)
 
 loop-less-2 : tie.Need-loop-less-2 Inv-loop μ-loop
 loop-less-2 c = omega arith
 
 loop-again-2 : tie.Need-loop-again-2 Inv-loop μ-loop
 loop-again-2 c =
- one-more _ _ _ _ _ _ _ _ _ ((c .before .before .before .before .before .before .before .loop) .inv) (omega arith) ((c .before .chip-l5) .ensures) ((c .step-l5) .ensures)
+    one-more _ _ _ _ _ _ _ _ _ ((c .before .before .before .before .before .before .before .loop) .inv) (omega arith) ((c .before .chip-l5) .ensures) ((c .step-l5) .ensures)
 
 same-length : tie.Need-same-length Inv-loop μ-loop
 same-length c = search needs
 
 returns : tie.Need-returns Inv-loop μ-loop
 returns c =
- ended _ _ _ _ _ _ _ ((c .before .loop) .inv) (omega arith)
+    ended _ _ _ _ _ _ _ ((c .before .loop) .inv) (omega arith)
 
 pub write-by-runs-spec : {M : Type 1} → statement M
 write-by-runs-spec =

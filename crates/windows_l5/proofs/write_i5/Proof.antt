@@ -1,11 +1,10 @@
 -- `windows_l5::write_i5` meets its contract.
 -- Assumes nothing.
-use Rattle.windows_l5.specs.Runs.{Advanced}
-use Rattle.stepped.proofs.ChipsSoFar.{of-signal}
-use Rattle.machine.specs.Signals.{fromL5}
 use mathlib.Core.Path.{sym, ap, _∙_, subst}
-use Prim.Native.Nat.{ℕ}
 use borrow.Author.Needs.{needs}
+use Rattle.machine.specs.Signals.{fromL5}
+use Rattle.stepped.proofs.ChipsSoFar.{of-signal}
+use Rattle.windows_l5.specs.Runs.{Advanced}
 use Rattle.windows_l5.proofs.write_i5.Statement.{statement}
 use Rattle.windows_l5.proofs.write_i5.Tie as tie
 

@@ -1,12 +1,12 @@
 -- `windows_l5::write_run` meets its contract.
 -- Assumes nothing.
+use Prim.Native.Nat.{ℕ, _-_, _*_, _/_, _%_, _^_, _≤_}
+use mathlib.Core.Path.{ap, _∙_}
+use native.Mathlib.Omega.{arith}
+use lib.ListN.{length-take, length-drop}
+use borrow.Author.Needs.{needs}
 use Rattle.digits.proofs.Rows.{last-part}
 use Rattle.windows_l5.proofs.Blocks.{first-within, second-within, block-tells}
-use lib.ListN.{length-take, length-drop}
-use native.Mathlib.Omega.{arith}
-use mathlib.Core.Path.{_≡_, ap, _∙_}
-use Prim.Native.Nat.{ℕ, _+_, _-_, _*_, _/_, _%_, _^_, _≤_}
-use borrow.Author.Needs.{needs}
 use Rattle.windows_l5.proofs.write_run.Statement.{statement}
 use Rattle.windows_l5.proofs.write_run.Tie as tie
 

@@ -1,7 +1,7 @@
 -- `windows_p::both` meets its contract.
 -- Assumes nothing.
-use lib.Bits.{bitXor}
 use mathlib.Core.Path.{ap₂}
+use lib.Bits.{bitXor}
 use borrow.Author.Needs.{needs}
 use Rattle.windows_p.proofs.both.Statement.{statement}
 use Rattle.windows_p.proofs.both.Tie as tie
@@ -14,7 +14,7 @@ word-of-requires-2 c κs = search needs
 
 returns : tie.Need-returns
 returns c =
- ap₂ bitXor ((c .before .word-of) .ensures) ((c .word-of2) .ensures)
+    ap₂ bitXor ((c .before .word-of) .ensures) ((c .word-of2) .ensures)
 
 pub both-spec : {M : Type 1} → statement M
 both-spec = tie.close (tie.spec word-of-requires word-of-requires-2 returns)

@@ -1,14 +1,14 @@
 -- `windows_p::go_along` meets its contract.
 -- Assumes nothing.
-use Rattle.windows_p.proofs.AlongP.{run-chips, channel-is}
-use Rattle.windows_p.proofs.Blocks.{first-within, second-within, third-within, fourth-within}
-use lib.ListN.{drop}
-use lib.Dec.{lit≤}
+use Prim.Native.Nat.{_+_, _≤_}
 use mathlib.Core.List.{_++_}
 use mathlib.Core.Path.{sym, ap, _∙_}
-use Prim.Native.Nat.{_+_, _≤_}
 use native.Mathlib.Omega.{arith}
+use lib.ListN.{drop}
+use lib.Dec.{lit≤}
 use borrow.Author.Needs.{needs}
+use Rattle.windows_p.proofs.AlongP.{run-chips, channel-is}
+use Rattle.windows_p.proofs.Blocks.{first-within, second-within, third-within, fourth-within}
 use Rattle.windows_p.proofs.go_along.Statement.{statement}
 use Rattle.windows_p.proofs.go_along.Tie as tie
 
@@ -17,7 +17,7 @@ write-run-requires c κs = search needs
 
 add-t13 : tie.Need-add-t13
 add-t13 c =
- omega (arith, (c .before .before .before .before .before .before .before .before .before .before .before .pre) .1 .1 .1 .1 .0 .week)
+    omega (arith, (c .before .before .before .before .before .before .before .before .before .before .before .pre) .1 .1 .1 .1 .0 .week)
 
 after-requires : tie.Need-after-requires
 after-requires c κs =

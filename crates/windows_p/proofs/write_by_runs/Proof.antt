@@ -1,32 +1,32 @@
 -- `windows_p::write_by_runs` meets its contract.
 -- Assumes nothing.
-use Rattle.stepped.proofs.ChipsSoFar.{SoFar, begun, one-more, part-more, ended}
-use Rattle.machine.specs.Signals.{signalP}
-use lib.ListN.{length-take, length-drop}
 use Prim.Native.Nat.{_-_}
 use native.Mathlib.Omega.{arith}
+use lib.ListN.{length-take, length-drop}
 use borrow.Author.Needs.{needs}
+use Rattle.machine.specs.Signals.{signalP}
+use Rattle.stepped.proofs.ChipsSoFar.{SoFar, begun, one-more, part-more, ended}
 use Rattle.windows_p.proofs.write_by_runs.Statement.{statement}
 use Rattle.windows_p.proofs.write_by_runs.Tie as tie
 
 abbrev Inv-loop : tie.InvT-loop
 Inv-loop count x1a x1b x2a x2b spread out₀ here₀ written₀ out here written =
- SoFar signalP count out₀ here₀ out here written
+    SoFar signalP count out₀ here₀ out here written
 
 abbrev μ-loop : tie.MeasureT-loop
 μ-loop count x1a x1b x2a x2b spread out₀ here₀ written₀ out here written =
- count - written
+    count - written
 
 loop-holds : tie.Need-loop-holds Inv-loop μ-loop
 loop-holds c =
- begun _ _ _ _ ((c .before .before .before .before .before .before .pre) .0) ((c .before .before .before .before .before .before .pre) .1 .1 .1 .0)
+    begun _ _ _ _ ((c .before .before .before .before .before .before .pre) .0) ((c .before .before .before .before .before .before .pre) .1 .1 .1 .0)
 
 sub-run-by-tables : tie.Need-sub-run-by-tables Inv-loop μ-loop
 sub-run-by-tables c = omega arith
 
 run-by-tables-requires : tie.Need-run-by-tables-requires Inv-loop μ-loop
 run-by-tables-requires c κs =
- ((c .before .loop) .inv .is, ((c .before .before .before .before .before .before .before .before .pre) .1 .0, omega arith))
+    ((c .before .loop) .inv .is, ((c .before .before .before .before .before .before .before .before .pre) .1 .0, omega arith))
 
 sub-go-along : tie.Need-sub-go-along Inv-loop μ-loop
 sub-go-along c = omega arith
@@ -45,7 +45,7 @@ go-along-requires c κs =
 
 add-written : tie.Need-add-written Inv-loop μ-loop
 add-written c =
- omega (arith, (c .before .before .before .before .before .run-by-tables) .ensures .0, (c .before .before .before .before .before .before .before .before .before .before .before .before .before .before .pre) .1 .1 .1 .1, (c .before .before .before .before .before .before .before .loop) .inv .bound)
+    omega (arith, (c .before .before .before .before .before .run-by-tables) .ensures .0, (c .before .before .before .before .before .before .before .before .before .before .before .before .before .before .pre) .1 .1 .1 .1, (c .before .before .before .before .before .before .before .loop) .inv .bound)
 
 loop-less : tie.Need-loop-less Inv-loop μ-loop
 loop-less c = omega arith
@@ -67,21 +67,21 @@ step-p-requires c κs = search needs
 
 add-written-2 : tie.Need-add-written-2 Inv-loop μ-loop
 add-written-2 c =
- omega (arith, (c .before .before .before .before .before .before .before .before .before .before .before .before .pre) .1 .1 .1 .1, (c .before .before .before .before .before .loop) .inv .bound)
+    omega (arith, (c .before .before .before .before .before .before .before .before .before .before .before .before .pre) .1 .1 .1 .1, (c .before .before .before .before .before .loop) .inv .bound)
 
 loop-less-2 : tie.Need-loop-less-2 Inv-loop μ-loop
 loop-less-2 c = omega arith
 
 loop-again-2 : tie.Need-loop-again-2 Inv-loop μ-loop
 loop-again-2 c =
- one-more _ _ _ _ _ _ _ _ _ ((c .before .before .before .before .before .loop) .inv) (omega arith) ((c .before .chip-p) .ensures) ((c .step-p) .ensures)
+    one-more _ _ _ _ _ _ _ _ _ ((c .before .before .before .before .before .loop) .inv) (omega arith) ((c .before .chip-p) .ensures) ((c .step-p) .ensures)
 
 same-length : tie.Need-same-length Inv-loop μ-loop
 same-length c = search needs
 
 returns : tie.Need-returns Inv-loop μ-loop
 returns c =
- ended _ _ _ _ _ _ _ ((c .before .loop) .inv) (omega arith)
+    ended _ _ _ _ _ _ _ ((c .before .loop) .inv) (omega arith)
 
 pub write-by-runs-spec : {M : Type 1} → statement M
 write-by-runs-spec =

@@ -1,7 +1,7 @@
 -- `windows_p::write_p` meets its contract.
 -- Assumes nothing.
-use Rattle.windows_p.specs.Runs.{Tables}
 use borrow.Author.Needs.{needs}
+use Rattle.windows_p.specs.Runs.{Tables}
 use Rattle.windows_p.proofs.write_p.Statement.{statement}
 use Rattle.windows_p.proofs.write_p.Tie as tie
 

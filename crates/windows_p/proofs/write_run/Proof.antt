@@ -1,14 +1,14 @@
 -- `windows_p::write_run` meets its contract.
 -- Assumes nothing.
-use Rattle.digits.proofs.Rows.{last-part}
-use Rattle.windows_p.proofs.Blocks.{first-within, second-within, third-within, fourth-within, block-tells, block-line}
-use Rattle.windows_p.specs.Runs.{lineAlong}
+use Prim.Native.Nat.{ℕ, _+_, _-_, _*_, _/_, _%_, _^_, _≤_}
+use mathlib.Core.Path.{_≡_, ap, _∙_}
+use native.Mathlib.Omega.{arith}
 use lib.ListN.{length-take, length-drop}
 use lib.Bits.{bitXor}
-use native.Mathlib.Omega.{arith}
-use mathlib.Core.Path.{_≡_, ap, _∙_}
-use Prim.Native.Nat.{ℕ, _+_, _-_, _*_, _/_, _%_, _^_, _≤_}
 use borrow.Author.Needs.{needs}
+use Rattle.digits.proofs.Rows.{last-part}
+use Rattle.windows_p.specs.Runs.{lineAlong}
+use Rattle.windows_p.proofs.Blocks.{first-within, second-within, third-within, fourth-within, block-tells, block-line}
 use Rattle.windows_p.proofs.write_run.Statement.{statement}
 use Rattle.windows_p.proofs.write_run.Tie as tie
 
@@ -49,7 +49,7 @@ both-requires-2 c κs =
 
 delayed-requires : tie.Need-delayed-requires
 delayed-requires c κs =
- (c .before .before .before .before .before .before .before .before .before .before .before .before .before .pre) .1 .1 .1 .0 .prn
+    (c .before .before .before .before .before .before .before .before .before .before .before .before .before .pre) .1 .1 .1 .0 .prn
 
 sub-write-word : tie.Need-sub-write-word
 sub-write-word c = search needs
@@ -88,8 +88,8 @@ returns-2 c =
     let few : k ≤ 64 = omega arith in (
       (c .line-after) .ensures ∙ line k few ∙ ap (lineAlong ((c .before .before .before .before .before .before .before .before .before .before .before .before .before .before .before .before .before .before .before .args) .ch)) all,
       last-part _ _ _ _ _ i k _ all (p .1 .1 .1 .1) (before .1)
-      (λ j h. ap (λ (w : ℕ). bitXor (x1 .result) w / 2 ^ (63 - j) % 2) ((c .before .before .before .before .before .delayed) .ensures) ∙ tells j (omega (arith, h, few)))
-      ((c .before .before .before .write-word) .ensures),
+          (λ j h. ap (λ (w : ℕ). bitXor (x1 .result) w / 2 ^ (63 - j) % 2) ((c .before .before .before .before .before .delayed) .ensures) ∙ tells j (omega (arith, h, few)))
+          ((c .before .before .before .write-word) .ensures),
     )
 
 pub write-run-spec : {M : Type 1} → statement M

@@ -1,27 +1,27 @@
 -- `windows_p::write_words` meets its contract.
 -- Assumes nothing.
-use Rattle.digits.proofs.Rows.{Filled, begun, part-more, ended}
-use Rattle.windows_p.proofs.Blocks.{first-within, second-within, third-within, fourth-within, block-tells, block-line}
-use Rattle.delay_lines.proofs.DelayedWords.{line-anew}
-use Rattle.delay_lines.specs.Lines.{lineBy}
-use Rattle.windows_p.specs.Runs.{lineAlong, chipAlong}
+use Prim.Native.Nat.{ℕ, _-_, _*_, _/_, _%_, _^_}
+use mathlib.Core.Path.{_≡_, refl, ap, _∙_}
+use native.Mathlib.Omega.{arith}
 use lib.ListN.{length-take, length-drop}
 use lib.Dec.{lit≤}
 use lib.Bits.{bitXor}
-use mathlib.Core.Path.{_≡_, refl, ap, _∙_}
-use Prim.Native.Nat.{ℕ, _-_, _*_, _/_, _%_, _^_}
-use native.Mathlib.Omega.{arith}
 use borrow.Author.Needs.{needs}
+use Rattle.digits.proofs.Rows.{Filled, begun, part-more, ended}
+use Rattle.delay_lines.proofs.DelayedWords.{line-anew}
+use Rattle.delay_lines.specs.Lines.{lineBy}
+use Rattle.windows_p.specs.Runs.{lineAlong, chipAlong}
+use Rattle.windows_p.proofs.Blocks.{first-within, second-within, third-within, fourth-within, block-tells, block-line}
 use Rattle.windows_p.proofs.write_words.Statement.{statement}
 use Rattle.windows_p.proofs.write_words.Tie as tie
 
 abbrev Inv-loop : tie.InvT-loop
 Inv-loop ch n x1a x1b x2a x2b spread out₀ whole line₀ i₀ out line i =
- Filled (chipAlong ch) (n / 64 * 64) out₀ out i × (line ≡ lineAlong ch i) × (i % 64 ≡ 0)
+    Filled (chipAlong ch) (n / 64 * 64) out₀ out i × (line ≡ lineAlong ch i) × (i % 64 ≡ 0)
 
 abbrev μ-loop : tie.MeasureT-loop
 μ-loop ch n x1a x1b x2a x2b spread out₀ whole line₀ i₀ out line i =
- n - i
+    n - i
 
 mul-whole : tie.Need-mul-whole Inv-loop μ-loop
 mul-whole c = omega arith
@@ -29,7 +29,7 @@ mul-whole c = omega arith
 loop-holds : tie.Need-loop-holds Inv-loop μ-loop
 unfolding lineBy
 loop-holds c =
- (begun _ _ _ (omega (arith, (c .before .before .before .before .before .before .pre) .1 .1 .1 .1)), refl, refl)
+    (begun _ _ _ (omega (arith, (c .before .before .before .before .before .before .pre) .1 .1 .1 .1)), refl, refl)
 
 both-requires : tie.Need-both-requires Inv-loop μ-loop
 both-requires c κs =
@@ -45,7 +45,7 @@ both-requires-2 c κs =
 
 delayed-requires : tie.Need-delayed-requires Inv-loop μ-loop
 delayed-requires c κs =
- (c .before .before .before .before .before .before .before .before .before .before .pre) .1 .1 .1 .0 .prn
+    (c .before .before .before .before .before .before .before .before .before .before .pre) .1 .1 .1 .0 .prn
 
 sub-write-whole : tie.Need-sub-write-whole Inv-loop μ-loop
 sub-write-whole c = omega arith
@@ -63,7 +63,7 @@ write-whole-requires c κs =
 
 add-i : tie.Need-add-i Inv-loop μ-loop
 add-i c =
- omega (arith, (c .before .before .before .before .before .before .before .before .before .before .before .before .before .before .before .pre) .1 .1 .1 .0 .few)
+    omega (arith, (c .before .before .before .before .before .before .before .before .before .before .before .before .before .before .before .pre) .1 .1 .1 .0 .few)
 
 loop-less : tie.Need-loop-less Inv-loop μ-loop
 loop-less c = omega arith
@@ -77,8 +77,8 @@ loop-again c =
     let tells = block-tells _ _ _ _ (p .0) _ (l .i) _ (p .1 .1 .1 .0) (omega arith) (p .1 .1 .0) _ _ (l .line) (x1 .ensures) (x2 .ensures) (omega arith) (l .inv .1) in
     let line = block-line _ _ _ _ (p .0) _ (l .i) _ (p .1 .1 .1 .0) (omega arith) (p .1 .1 .0) _ _ (l .line) (x1 .ensures) (x2 .ensures) (omega arith) (l .inv .1) in (
       part-more _ _ _ (l .out) _ (l .i) 64 _ (l .inv .0) (omega (arith, l .inv .2))
-      (λ j h. ap (λ (w : ℕ). bitXor (x1 .result) w / 2 ^ (63 - j) % 2) ((c .before .before .before .before .delayed) .ensures) ∙ tells j h)
-      ((c .before .before .write-whole) .ensures),
+          (λ j h. ap (λ (w : ℕ). bitXor (x1 .result) w / 2 ^ (63 - j) % 2) ((c .before .before .before .before .delayed) .ensures) ∙ tells j h)
+          ((c .before .before .write-whole) .ensures),
       line-anew (l .line) (x2 .result) ∙ line 64 (lit≤ tt),
       omega (arith, l .inv .2),
     )

@@ -1,8 +1,41 @@
-// What the lowest sixteen digits of an L2 register give. `rt` computes the table from the register and compares. A table is written anew wherever it is
-// named, so it is named once, in its function of `lib.rt`.
+// What the lowest twenty-four digits of an L2 register give. `rt` computes the table from the register and compares. A table is written anew wherever
+// it is named, so it is named once, in its function of `lib.rt`.
 
-// Entry 16 m + k, for the value k of hexadecimal digit m, the lowest being digit 0: sixteen chips, and behind them in 32 digits the register after them.
-pub const L2: [u64; 64] = [
+// Entry 16 m + k, for the value k of hexadecimal digit m, the lowest being digit 0: twenty-four chips, and behind them in 32 digits the register
+// after them.
+pub const L2: [u64; 96] = [
+    0x0000_0000_0000_0000,
+    0x009c_949b_060d_49ce,
+    0x004e_4a4d_0533_b9e5,
+    0x00d2_ded6_033e_f02b,
+    0x0027_2526_034e_59b3,
+    0x00bb_b1bd_0543_107d,
+    0x0069_6f6b_067d_e056,
+    0x00f5_fbf0_0070_a998,
+    0x0013_9293_069c_b366,
+    0x008f_0608_0091_faa8,
+    0x005d_d8de_03af_0a83,
+    0x00c1_4c45_05a2_434d,
+    0x0034_b7b5_05d2_ead5,
+    0x00a8_232e_03df_a31b,
+    0x007a_fdf8_00e1_5330,
+    0x00e6_6963_06ec_1afe,
+    0x0000_0000_0000_0000,
+    0x0009_c949_0410_4cb5,
+    0x0004_e4a4_0109_b313,
+    0x000d_2ded_0519_ffa6,
+    0x0002_7252_0213_6626,
+    0x000b_bb1b_0603_2a93,
+    0x0006_96f6_031a_d535,
+    0x000f_5fbf_070a_9980,
+    0x0001_3929_0426_cc4c,
+    0x0008_f060_0036_80f9,
+    0x0005_dd8d_052f_7f5f,
+    0x000c_14c4_013f_33ea,
+    0x0003_4b7b_0635_aa6a,
+    0x000a_8232_0225_e6df,
+    0x0007_afdf_073c_1979,
+    0x000e_6696_032c_55cc,
     0x0000_0000_0000_0000,
     0x0000_9c94_0164_b2e1,
     0x0000_4e4a_02c9_65c2,

@@ -1,2 +1,2 @@
 -- For the contracts of inner functions alone.
-pub mod Sixteens
+pub mod TwentyFours

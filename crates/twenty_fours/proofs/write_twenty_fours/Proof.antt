@@ -1,28 +1,28 @@
--- `sixteens::write_sixteens` meets its contract.
+-- `twenty_fours::write_twenty_fours` meets its contract.
 -- Assumes nothing.
 use Prim.Native.Nat.{_-_}
-use lib.ListN.{length-take, length-drop}
-use Rattle.sixteens.proofs.Turns.{Turned, begin, one-turn, end}
 use native.Mathlib.Omega.{arith}
+use lib.ListN.{length-take, length-drop}
 use borrow.Author.Needs.{needs}
-use Rattle.sixteens.proofs.write_sixteens.Statement.{statement}
-use Rattle.sixteens.proofs.write_sixteens.Tie as tie
+use Rattle.twenty_fours.proofs.Turns.{Turned, begin, one-turn, end}
+use Rattle.twenty_fours.proofs.write_twenty_fours.Statement.{statement}
+use Rattle.twenty_fours.proofs.write_twenty_fours.Tie as tie
 
 abbrev Inv-loop : tie.InvT-loop
-Inv-loop table spread register sixteens out₀ here₀ n₀ out here n =
-    Turned register sixteens out₀ out here n
+Inv-loop table spread register turns out₀ here₀ n₀ out here n =
+    Turned register turns out₀ out here n
 
 abbrev μ-loop : tie.MeasureT-loop
-μ-loop table spread register sixteens out₀ here₀ n₀ out here n =
-    sixteens - n
+μ-loop table spread register turns out₀ here₀ n₀ out here n =
+    turns - n
 
 loop-holds : tie.Need-loop-holds Inv-loop μ-loop
 loop-holds c =
     let p = c .before .before .before .pre in
     begin _ _ _ (p .1 .1 .0) (p .1 .1 .1)
 
-sixteen-requires : tie.Need-sixteen-requires Inv-loop μ-loop
-sixteen-requires c κs = search needs
+twenty-four-requires : tie.Need-twenty-four-requires Inv-loop μ-loop
+twenty-four-requires c κs = search needs
 
 mul-at : tie.Need-mul-at Inv-loop μ-loop
 mul-at c = omega arith
@@ -52,7 +52,7 @@ loop-less c = omega arith
 loop-again : tie.Need-loop-again Inv-loop μ-loop
 loop-again c =
     let l = c .before .before .before .before .before .before .loop in
-    let s = c .before .before .before .before .sixteen in
+    let s = c .before .before .before .before .twenty-four in
     one-turn _ _ _ _ _ _ _ _ (l .inv) (omega arith) (s .ensures) ((c .before .before .write-word) .ensures)
 
 same-length : tie.Need-same-length Inv-loop μ-loop
@@ -62,14 +62,14 @@ returns : tie.Need-returns Inv-loop μ-loop
 returns c =
     end _ _ _ _ _ _ ((c .before .loop) .inv) (omega arith)
 
-pub write-sixteens-spec : {M : Type 1} → statement M
-write-sixteens-spec =
+pub write-twenty-fours-spec : {M : Type 1} → statement M
+write-twenty-fours-spec =
     tie.close
     (tie.spec
     Inv-loop
     μ-loop
     loop-holds
-    sixteen-requires
+    twenty-four-requires
     mul-at
     sub-write-word
     part-write-word-start
