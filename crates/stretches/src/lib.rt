@@ -1,7 +1,7 @@
 // A stretch of one generator: steps in which it neither begins a cycle anew nor is held or let go. It shifts all along, and its chips stand in its
 // table one behind the other; or it is held all along, and gives the same chip. `proofs/LawOfRuns.antt` says so once for every generator.
 ghost use mathlib.Core.Path.{_≡_};
-ghost use Prim.Native.Nat.{_+_, _-_, _*_, _/_, _<_, _≤_, _^_};
+ghost use Prim.Native.Nat.{_+_, _-_, _/_, _<_, _≤_, _^_};
 ghost use lib.ListN.{length};
 ghost use lib.Dec.{eqb};
 ghost use Rattle.registers.specs.Register.{stage};

@@ -3,10 +3,9 @@
 ghost use mathlib.Core.Path.{_≡_};
 ghost use mathlib.Core.Bool.{true};
 ghost use mathlib.Core.List.{_++_};
-ghost use Prim.Native.Nat.{_+_, _-_, _*_, _/_, _%_, _<_, _≤_, _^_};
+ghost use Prim.Native.Nat.{_*_, _/_, _<_, _≤_};
 ghost use lib.Bits.{bitXor};
 ghost use lib.ListN.{length, drop};
-ghost use Rattle.starts.specs.Starts.{Listed};
 ghost use Rattle.machine.specs.Signals.{signalP};
 ghost use Rattle.machine.specs.Machine.{advance, chips};
 ghost use Rattle.machine.specs.Ranged.{RangedAs};
