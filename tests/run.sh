@@ -20,6 +20,9 @@ for part in *; do
     [ "$part" = target ] || cp -R "$part" "$copy/here/"
 done
 
+# rt starts a batch of jobs and waits for all of it before the next one, so that more jobs than processors keep these busy.
+export RT_JOBS="${RT_JOBS:-$((3 * $(nproc)))}"
+
 # In a process group of its own, so that it ends whole where the C side fails.
 set -m
 rt ci >"$verdict" 2>&1 &
