@@ -20,8 +20,8 @@ for part in *; do
     [ "$part" = target ] || cp -R "$part" "$copy/here/"
 done
 
-# rt starts a batch of jobs and waits for all of it before the next one, so that more jobs than processors keep these busy.
-export RT_JOBS="${RT_JOBS:-$((3 * $(nproc)))}"
+# rt starts a batch of jobs and waits for all of it before the next one, so that one job more than there are processors keeps these busy.
+export RT_JOBS="${RT_JOBS:-$(($(nproc) + 1))}"
 
 # In a process group of its own, so that it ends whole where the C side fails.
 set -m
