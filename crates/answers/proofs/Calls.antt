@@ -14,7 +14,8 @@ use lib.ListN.{length, length-replicate}
 use borrow.Author.Tests.{leb-true, le-leb, ne-eqb}
 use Rattle.machine.specs.Machine.{inRange, advance, chips}
 use Rattle.machine.specs.declared.Channel.{Channel}
-use Rattle.engine.specs.Replies.{Reply, mostChips, writtenWith, unwrittenWith, written, windowReply}
+use Rattle.replies.specs.Reply.{Reply, written}
+use Rattle.call_window.specs.Window.{mostChips, writtenWith, unwrittenWith, windowReply}
 use Rattle.gps_chips.specs.Chips.{chipsAnswer, byTheMachine, chipsBuffer}
 use Rattle.texts.specs.Texts.{refusedLine}
 use Rattle.texts.specs.Buffers.{Begins}

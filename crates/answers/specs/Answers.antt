@@ -8,7 +8,9 @@ use lib.Dec.{leb, eqb}
 use lib.ListN.{replicate}
 use lib.IntN.{ℤ, pos, negsuc}
 use Rattle.machine.specs.declared.Channel.{Channel}
-use Rattle.engine.specs.Replies.{OpenReply, channel, refusal, Reply, windowReply}
+use Rattle.replies.specs.Reply.{Reply}
+use Rattle.call_open.specs.Open.{OpenReply, channel, refusal}
+use Rattle.call_window.specs.Window.{windowReply}
 use Rattle.gps_chips.specs.Chips.{chipsAnswer, byTheMachine}
 use Rattle.places.specs.Places as places
 use Rattle.texts.specs.Texts.{refusedLine, chipDigit}

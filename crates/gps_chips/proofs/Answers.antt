@@ -17,7 +17,7 @@ use Rattle.machine.specs.Signals.{weekOf}
 use Rattle.machine.specs.Machine.{opened, advance, chips, isSignal, isPrn}
 use Rattle.machine.specs.declared.Channel.{Channel}
 use Rattle.standard.proofs.EveryChip.{every-window}
-use Rattle.engine.specs.Replies.{mostChips}
+use Rattle.call_window.specs.Window.{mostChips}
 use Rattle.gps_chips.specs.Chips.{chipsAnswer, chipsBuffer, byTheMachine, byTheStandards}
 
 -- ---- the answer

@@ -12,9 +12,13 @@ use Rattle.machine.specs.declared.Channel.{Channel}
 use Rattle.machine.proofs.Advance.{advance-none}
 use Rattle.machine.proofs.Chips.{chips-length}
 use Rattle.machine.proofs.RangeLaw.{reached-in}
-use Rattle.engine.specs.Replies.{mostChips, openReply, channel, Reply, seekReply, windowReply, written}
-use Rattle.engine.proofs.Calls.{open-accepted, seeks-accepted}
-use Rattle.engine.proofs.Windows.{window-accepted}
+use Rattle.replies.specs.Reply.{Reply, written}
+use Rattle.call_open.specs.Open.{openReply, channel}
+use Rattle.call_open.proofs.Opens.{open-accepted}
+use Rattle.call_seek.specs.Seek.{seekReply}
+use Rattle.call_seek.proofs.Seeks.{seeks-accepted}
+use Rattle.call_window.specs.Window.{mostChips, windowReply}
+use Rattle.call_window.proofs.Windows.{window-accepted}
 use Rattle.gps_chips.specs.Chips.{chipsBuffer, byTheMachine}
 use Rattle.gps_chips.proofs.Answers.{fits}
 

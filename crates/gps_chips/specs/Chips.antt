@@ -8,7 +8,7 @@ use lib.ListN.{length}
 use Rattle.machine.specs.Signals.{weekOf, placesFrom}
 use Rattle.machine.specs.Machine.{opened, advance, chips, isSignal, isPrn}
 use Rattle.standard.specs.Standard.{standard}
-use Rattle.engine.specs.Replies.{mostChips}
+use Rattle.call_window.specs.Window.{mostChips}
 
 -- for a buffer of n bytes: "1, 2, 3, then 5 for its length. It answers 0 or the refusal."
 unfoldable pub chipsAnswer : ℕ → ℕ → ℕ → ℕ → ℕ

@@ -25,8 +25,9 @@ use Rattle.machine.proofs.Advance.{advance-none}
 use Rattle.week.specs.Standing.{inPeriod, standingAt, generatorAt}
 use Rattle.week.proofs.LawOfTheWeek.{at-place, last-step}
 use Rattle.seeks.specs.Leaps.{phaseOnes, leapsTo}
-use Rattle.engine.specs.Replies.{Reply, seekReply}
-use Rattle.engine.proofs.Calls.{seeks-accepted}
+use Rattle.replies.specs.Reply.{Reply}
+use Rattle.call_seek.specs.Seek.{seekReply}
+use Rattle.call_seek.proofs.Seeks.{seeks-accepted}
 use Rattle.places.specs.Places.{answer, gapReply}
 use Rattle.places.proofs.EndValues.{half-a-week-on}
 

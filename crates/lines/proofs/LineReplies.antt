@@ -16,7 +16,8 @@ use lib.ListN.{length, set, length-append, length-map}
 use borrow.Author.Tests.{leb-true, leb-false, le-leb, lt-leb, lt-ltb, ne-eqb}
 use Rattle.machine.specs.Signals.{weekOf}
 use Rattle.machine.specs.Machine.{isSignal, isPrn}
-use Rattle.engine.specs.Replies.{mostChips, written}
+use Rattle.replies.specs.Reply.{written}
+use Rattle.call_window.specs.Window.{mostChips}
 use Rattle.gps_chips.specs.Chips.{chipsAnswer, chipsBuffer, byTheMachine}
 use Rattle.gps_chips.proofs.Answers.{Admitted, admitted}
 use Rattle.machine.proofs.Tests.{four}

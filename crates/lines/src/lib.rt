@@ -3,7 +3,7 @@ ghost use mathlib.Core.Path.{_≡_};
 ghost use mathlib.Core.Bool.{cond};
 ghost use Prim.Native.Nat.{_≤_, _<_, _+_};
 ghost use lib.ListN.{length};
-ghost use Rattle.engine.specs.Replies.{written};
+ghost use Rattle.replies.specs.Reply.{written};
 ghost use Rattle.texts.specs.Buffers.{Begins};
 ghost use Rattle.lines.specs.Lines.{areNumbers, isCount, echoed, answeredWith, replyTo, fieldsReply, lineReply};
 ghost use Rattle.lines.specs.Inner.{Fits};

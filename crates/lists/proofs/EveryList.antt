@@ -20,8 +20,8 @@ use Rattle.standard.specs.Standard.{standard}
 use Rattle.standard.proofs.EveryChip.{every-window}
 use Rattle.seeks.specs.Leaps.{leapsTo}
 use Rattle.seeks.proofs.FewLeaps.{at-most-44}
-use Rattle.engine.specs.Replies.{Reply}
-use Rattle.engine.proofs.Calls.{open-accepted}
+use Rattle.replies.specs.Reply.{Reply}
+use Rattle.call_open.proofs.Opens.{open-accepted}
 use Rattle.lists.specs.Lists.{Call, replyTo, replies, handedBack, refusalOf, accepted, handsOut, lastSought, handedOutSince, placeAfter, along}
 use Rattle.lists.specs.Lists.{passes, machineChip, leaves, tells, ListOfCalls, EveryList}
 use Rattle.lists.proofs.OneCall.{none-done, machineAt, chips-there, Right, call-right}

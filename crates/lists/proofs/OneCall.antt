@@ -20,9 +20,14 @@ use Rattle.machine.proofs.Advance.{advance-none, advance-one, advance-last, adv
 use Rattle.machine.proofs.RangeLaw.{reached-in}
 use Rattle.week.proofs.LawOfTheWeek.{law-of-the-week, weeks-pass}
 use Rattle.week.proofs.RoundTheWeek.{chips-round}
-use Rattle.engine.specs.Replies.{mostChips, channel, Reply, seekReply, stepReply, windowReply, unwrittenWith, written}
-use Rattle.engine.proofs.Calls.{steps-accepted, seek-past, seeks-accepted}
-use Rattle.engine.proofs.Windows.{window-too-many, window-no-room, window-accepted}
+use Rattle.replies.specs.Reply.{Reply, written}
+use Rattle.call_open.specs.Open.{channel}
+use Rattle.call_seek.specs.Seek.{seekReply}
+use Rattle.call_seek.proofs.Seeks.{seek-past, seeks-accepted}
+use Rattle.call_step.specs.Step.{stepReply}
+use Rattle.call_step.proofs.Steps.{steps-accepted}
+use Rattle.call_window.specs.Window.{mostChips, windowReply, unwrittenWith}
+use Rattle.call_window.proofs.Windows.{window-too-many, window-no-room, window-accepted}
 use Rattle.lists.specs.Lists.{Call, replyTo, refusalOf, handsOut, lastSought, handedOutSince, placeAfter}
 use Rattle.lists.specs.Lists.{machineChip, leaves, tells}
 

@@ -12,7 +12,11 @@ use Rattle.machine.specs.Machine.{opened, advance, chip}
 use Rattle.machine.specs.declared.Channel.{Channel}
 use Rattle.standard.specs.Standard.{standard}
 use Rattle.seeks.specs.Leaps.{leapsTo}
-use Rattle.engine.specs.Replies.{openReply, channel, Reply, seekReply, stepReply, mostChips, windowReply, written}
+use Rattle.replies.specs.Reply.{Reply, written}
+use Rattle.call_open.specs.Open.{openReply, channel}
+use Rattle.call_seek.specs.Seek.{seekReply}
+use Rattle.call_step.specs.Step.{stepReply}
+use Rattle.call_window.specs.Window.{mostChips, windowReply}
 
 -- ---- a list of calls, and what they answer
 

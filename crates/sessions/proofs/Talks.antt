@@ -11,7 +11,7 @@ use native.Mathlib.Omega.{arith}
 use lib.ListN.{length, take, getD}
 use lib.Seq.{length-take-le}
 use borrow.Author.Tests.{eq-eqb, ne-eqb}
-use Rattle.engine.specs.Replies.{written}
+use Rattle.replies.specs.Reply.{written}
 use Rattle.texts.specs.Buffers.{Begins}
 use Rattle.texts.proofs.Written.{begins-none, begins-more, begins-fits}
 use Rattle.texts.proofs.Saying.{replies-more, rest-more}

@@ -7,7 +7,9 @@ use lib.Dec.{eqb}
 use lib.ListN.{length, take}
 use Rattle.machine.specs.declared.Generator.{Generator}
 use Rattle.machine.specs.declared.Mode.the-variants as modes
-use Rattle.engine.specs.Replies.{openReply, seekReply, stepReply}
+use Rattle.call_open.specs.Open.{openReply}
+use Rattle.call_seek.specs.Seek.{seekReply}
+use Rattle.call_step.specs.Step.{stepReply}
 use Rattle.places.specs.Places.{readingReply, placeOfReply, gapReply}
 use Rattle.texts.specs.Saying.{restOf, repliesOf}
 use Rattle.words.specs.declared.Last.{Last}

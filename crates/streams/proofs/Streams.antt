@@ -13,7 +13,7 @@ use lib.Dec.{leb, eqb}
 use lib.ListN.{length, take, getD, length-take}
 use lib.Seq.{take-all, take-take, length-take-le}
 use borrow.Author.Tests.{leb-true, leb-false, eq-eqb, ne-eqb}
-use Rattle.engine.specs.Replies.{written}
+use Rattle.replies.specs.Reply.{written}
 use Rattle.texts.specs.Texts.{refusedLine}
 use Rattle.texts.specs.Buffers.{Begins}
 use Rattle.lines.specs.Lines.{lineReply}

@@ -17,7 +17,7 @@ use native.Mathlib.Nat.{add-zero, add-assoc}
 use native.Mathlib.Omega.{arith}
 use lib.ListN.{length, take, drop, getD, set, take-append-drop, length-append, length-drop, length-map}
 use lib.Seq.{set-split, take-at, drop-at, drop-drop, length-take-le, take-suc}
-use Rattle.engine.specs.Replies.{written}
+use Rattle.replies.specs.Reply.{written}
 use Rattle.digits.proofs.Rows.{put-back}
 use Rattle.texts.specs.Texts.{chipDigit}
 use Rattle.texts.specs.Buffers.{Puts, Begins}

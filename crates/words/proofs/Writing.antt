@@ -6,7 +6,7 @@ use mathlib.Core.Path.{_≡_, ap, _∙_}
 use native.Mathlib.Omega.{arith}
 use lib.ListN.{length, take, set, length-append}
 use Rattle.io.specs.Digits.{digits, Fewest}
-use Rattle.engine.specs.Replies.{written}
+use Rattle.replies.specs.Reply.{written}
 use Rattle.texts.specs.Buffers.{Puts}
 use Rattle.texts.proofs.Written.{byte-more, puts-length, puts-more}
 use Rattle.machine.specs.declared.Mode.{Mode}

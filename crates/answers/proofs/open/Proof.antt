@@ -5,7 +5,7 @@ use borrow.Author.Needs.{needs}
 use Rattle.words.specs.Words.{channelWord}
 use Rattle.texts.proofs.Written.{begins-as}
 use Rattle.texts.specs.Texts.{refusedLine}
-use Rattle.engine.specs.Replies.{channel, refusal, openReply, ofOpened}
+use Rattle.call_open.specs.Open.{channel, refusal, openReply, ofOpened}
 use Rattle.answers.specs.Answers.{ok, openLine, openedLast}
 use Rattle.answers.proofs.open.Statement.{statement}
 use Rattle.answers.proofs.open.Tie as tie

@@ -5,7 +5,8 @@ use mathlib.Core.List.{_++_}
 use borrow.Author.Needs.{needs}
 use Rattle.words.specs.Words.{numberWord, channelWord}
 use Rattle.texts.specs.Texts.{refusedLine}
-use Rattle.engine.specs.Replies.{soughtWith, refusedWith, seekReply, ofSought}
+use Rattle.replies.specs.Reply.{refusedWith}
+use Rattle.call_seek.specs.Seek.{soughtWith, seekReply, ofSought}
 use Rattle.answers.specs.Answers.{ok, seekLine}
 use Rattle.answers.proofs.Calls.{handed-on, one-number}
 use Rattle.answers.proofs.seek.Statement.{statement}

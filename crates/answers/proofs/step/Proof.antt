@@ -5,7 +5,8 @@ use mathlib.Core.List.{_++_}
 use borrow.Author.Needs.{needs}
 use Rattle.words.specs.Words.{numberWord, channelWord}
 use Rattle.texts.specs.Texts.{refusedLine}
-use Rattle.engine.specs.Replies.{steppedWith, refusedWith, stepReply, ofStepped}
+use Rattle.replies.specs.Reply.{refusedWith}
+use Rattle.call_step.specs.Step.{steppedWith, stepReply, ofStepped}
 use Rattle.answers.specs.Answers.{ok, stepLine}
 use Rattle.answers.proofs.Calls.{handed-on, one-number}
 use Rattle.answers.proofs.step.Statement.{statement}

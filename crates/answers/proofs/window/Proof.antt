@@ -9,7 +9,7 @@ use lib.Dec.{leb}
 use borrow.Author.Tests.{lt-leb}
 use borrow.Author.Needs.{needs}
 use Rattle.texts.proofs.Written.{begins-as}
-use Rattle.engine.specs.Replies.{windowReply}
+use Rattle.call_window.specs.Window.{windowReply}
 use Rattle.answers.specs.Answers.{errorLine, mostLength, windowLine, windowAnswered}
 use Rattle.answers.proofs.Calls.{window-of}
 use Rattle.answers.proofs.window.Statement.{statement}

@@ -8,7 +8,8 @@ use lib.ListN.{take, drop, length-take}
 use borrow.Author.Needs.{needs}
 use Rattle.words.specs.Words.{channelWord}
 use Rattle.texts.specs.Texts.{refusedLine}
-use Rattle.engine.specs.Replies.{Reply, writtenWith, unwrittenWith, windowReply, ofWindowed}
+use Rattle.replies.specs.Reply.{Reply}
+use Rattle.call_window.specs.Window.{writtenWith, unwrittenWith, windowReply, ofWindowed}
 use Rattle.answers.specs.Answers.{ok, chipsWord, windowLine}
 use Rattle.answers.proofs.Calls.{handed-on, window-fits}
 use Rattle.answers.proofs.window_on.Statement.{statement}

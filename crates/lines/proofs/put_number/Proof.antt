@@ -7,7 +7,7 @@ use native.Mathlib.Omega.{arith}
 use lib.ListN.{length, take, drop, set, length-append}
 use borrow.Author.Needs.{needs}
 use Rattle.texts.proofs.Written.{byte-more}
-use Rattle.engine.specs.Replies.{written}
+use Rattle.replies.specs.Reply.{written}
 use Rattle.fields.specs.Fields.{shorn}
 use Rattle.fields.proofs.Bytes.{part-from, shorn-short}
 use Rattle.lines.proofs.put_number.Statement.{statement}

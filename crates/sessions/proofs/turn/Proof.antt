@@ -9,7 +9,7 @@ use lib.ListN.{length}
 use borrow.Author.Needs.{needs}
 use Rattle.words.specs.declared.Last.{Last}
 use Rattle.texts.proofs.Written.{written-none}
-use Rattle.engine.specs.Replies.{written}
+use Rattle.replies.specs.Reply.{written}
 use Rattle.sessions.specs.Sessions.{talk}
 use Rattle.sessions.proofs.Talks.{newline-next, newline-said, other-next, other-said}
 use Rattle.sessions.proofs.turn.Statement.{statement}

@@ -9,7 +9,7 @@ use borrow.Author.Needs.{needs}
 use Rattle.streams.proofs.Streams.{newline-next, newline-said, other-next, other-said}
 use Rattle.texts.proofs.Written.{written-none}
 use Rattle.streams.specs.Stream.{held, kept}
-use Rattle.engine.specs.Replies.{written}
+use Rattle.replies.specs.Reply.{written}
 use Rattle.streams.proofs.turn.Statement.{statement}
 use Rattle.streams.proofs.turn.Tie as tie
 

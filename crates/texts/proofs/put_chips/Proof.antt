@@ -9,7 +9,7 @@ use lib.ListN.{length, take, set, length-map}
 use borrow.Author.Needs.{needs}
 use Rattle.texts.proofs.Written.{written-none, chip-more}
 use Rattle.texts.specs.Texts.{chipDigit}
-use Rattle.engine.specs.Replies.{written}
+use Rattle.replies.specs.Reply.{written}
 use Rattle.texts.proofs.put_chips.Statement.{statement}
 use Rattle.texts.proofs.put_chips.Tie as tie
 

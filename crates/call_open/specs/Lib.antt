@@ -1,0 +1,2 @@
+-- What open answers.
+pub mod Open

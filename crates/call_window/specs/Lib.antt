@@ -1,0 +1,2 @@
+-- What window answers.
+pub mod Window

@@ -1,2 +1,0 @@
--- What the calls answer.
-pub mod Replies
