@@ -20,7 +20,8 @@ use Rattle.gps_chips.specs.Chips.{chipsAnswer, byTheMachine, chipsBuffer}
 use Rattle.texts.specs.Texts.{refusedLine}
 use Rattle.texts.specs.Buffers.{Begins}
 use Rattle.texts.proofs.Written.{begins-as}
-use Rattle.words.specs.Words.{numberWord, channelWord}
+use Rattle.numbers.specs.Numbers.{numberWord}
+use Rattle.words.specs.Words.{channelWord}
 use Rattle.words.specs.declared.Last.{Last}
 use Rattle.answers.specs.Answers.{ok, chipsWord, windowLine, answeredLine, chipsLine, mostLength, buffer, windowAnswered, chipsAnswered, handedBack, windowLast}
 use Rattle.answers.specs.declared.Answered.{Answered}

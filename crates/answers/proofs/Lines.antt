@@ -14,7 +14,7 @@ use lib.IntN.{ℤ, pos, negsuc, natAbs}
 use Rattle.texts.specs.Texts.{chipDigit}
 use Rattle.texts.specs.Buffers.{Puts, Begins}
 use Rattle.texts.proofs.Written.{written-one, puts-more}
-use Rattle.words.specs.Words.{numberWord}
+use Rattle.numbers.specs.Numbers.{numberWord}
 use Rattle.answers.specs.Answers.{chipsWord, signedWord}
 
 -- ---- words

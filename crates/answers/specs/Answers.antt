@@ -14,7 +14,8 @@ use Rattle.call_window.specs.Window.{windowReply}
 use Rattle.gps_chips.specs.Chips.{chipsAnswer, byTheMachine}
 use Rattle.places.specs.Places as places
 use Rattle.texts.specs.Texts.{refusedLine, chipDigit}
-use Rattle.words.specs.Words.{numberWord, channelWord}
+use Rattle.numbers.specs.Numbers.{numberWord}
+use Rattle.words.specs.Words.{channelWord}
 use Rattle.words.specs.declared.Last.{Last}
 
 -- ---- the parts of an answer

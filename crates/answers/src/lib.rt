@@ -9,7 +9,8 @@ ghost use Rattle.call_seek.specs.Seek.{seekReply};
 ghost use Rattle.call_step.specs.Step.{stepReply};
 ghost use Rattle.call_window.specs.Window.{windowReply};
 ghost use Rattle.places.specs.Places.{readingReply, placeOfReply, gapReply};
-ghost use Rattle.words.specs.Words.{numberWord, channelWord};
+ghost use Rattle.numbers.specs.Numbers.{numberWord};
+ghost use Rattle.words.specs.Words.{channelWord};
 ghost use Rattle.texts.specs.Buffers.{Puts, Begins};
 ghost use Rattle.answers.specs.Answers.{ok, chipsWord, signedWord, answeredLine, openLine, seekLine, stepLine, windowLine, chipsLine, readingLine, placeOfLine, gapLine, errorLine, windowAnswered, chipsAnswered, handedBack, openedLast, windowLast};
 use engine::Opened;
@@ -56,7 +57,7 @@ fn ok_number_channel(n: u64, ch: Channel, out: &mut [u8]) -> usize
     ensures { λ r. ⌜ Begins (ok (numberWord 32 n ++ channelWord 10 ch)) (now (out .entry)) (now (out .exit)) r ⌝ }
 {
     let first = texts::put(b"ok ", out, 0);
-    let second = words::put_number(n, b' ', out, first);
+    let second = numbers::put_number(n, b' ', out, first);
     words::put_channel(ch, b'\n', out, second)
 }
 
@@ -75,7 +76,7 @@ fn ok_number(n: u64, out: &mut [u8]) -> usize
     ensures { λ r. ⌜ Begins (ok (numberWord 10 n)) (now (out .entry)) (now (out .exit)) r ⌝ }
 {
     let end = texts::put(b"ok ", out, 0);
-    words::put_number(n, b'\n', out, end)
+    numbers::put_number(n, b'\n', out, end)
 }
 
 fn ok_numbers(n: u64, m: u64, out: &mut [u8]) -> usize
@@ -83,8 +84,8 @@ fn ok_numbers(n: u64, m: u64, out: &mut [u8]) -> usize
     ensures { λ r. ⌜ Begins (ok (numberWord 32 n ++ numberWord 10 m)) (now (out .entry)) (now (out .exit)) r ⌝ }
 {
     let first = texts::put(b"ok ", out, 0);
-    let second = words::put_number(n, b' ', out, first);
-    words::put_number(m, b'\n', out, second)
+    let second = numbers::put_number(n, b' ', out, first);
+    numbers::put_number(m, b'\n', out, second)
 }
 
 fn ok_signed(n: i64, out: &mut [u8]) -> usize
@@ -94,7 +95,7 @@ fn ok_signed(n: i64, out: &mut [u8]) -> usize
     let size = places::size(n);
     if n < 0 {
         let end = texts::put(b"ok -", out, 0);
-        return words::put_number(size, b'\n', out, end);
+        return numbers::put_number(size, b'\n', out, end);
     }
     ok_number(size, out)
 }
@@ -105,7 +106,7 @@ fn answer_chips(refusal: u64, chips: &[u8], out: &mut [u8]) -> usize
     ensures { λ r. ⌜ Begins (answeredLine refusal (now (chips .entry))) (now (out .entry)) (now (out .exit)) r ⌝ }
 {
     let first = texts::put(b"answer ", out, 0);
-    let second = words::put_number(refusal, b' ', out, first);
+    let second = numbers::put_number(refusal, b' ', out, first);
     put_chips(chips, out, second)
 }
 

@@ -5,7 +5,7 @@
 use Prim.Native.Nat.{ℕ}
 use mathlib.Core.Bool.{Bool, true, false, cond, not}
 use mathlib.Core.Path.{_≡_, sym, ap, _∙_}
-use Rattle.words.specs.Words.{Read}
+use Rattle.numbers.specs.Numbers.{Read}
 use Rattle.commands.specs.declared.Command.{Command}
 use Rattle.commands.specs.declared.Command.the-variants as commands
 use Rattle.commands.specs.Commands.{argument, lastArgument, whole}

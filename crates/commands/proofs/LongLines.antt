@@ -17,8 +17,9 @@ use Rattle.machine.specs.declared.Channel.{Channel}
 use Rattle.fields.specs.Fields.{digit}
 use Rattle.texts.proofs.Saying.{Plain}
 use Rattle.words.specs.declared.Last.{Last}
-use Rattle.words.specs.Words.{found, missing, most64, digitsIn, numberWord, modeWord, generatorWord, generatorsWord, channelWord, readNumber, unpadded, readArgument, readChannel}
-use Rattle.words.proofs.Numbers.{digits-short, number-short, number-back, number-lost}
+use Rattle.numbers.specs.Numbers.{found, missing, most64, digitsIn, numberWord, readNumber, unpadded, readArgument}
+use Rattle.words.specs.Words.{modeWord, generatorWord, generatorsWord, channelWord, readChannel}
+use Rattle.numbers.proofs.Numbers.{digits-short, number-short, number-back, number-lost}
 use Rattle.words.proofs.Generators.{generator-lost}
 use Rattle.words.proofs.RoundTrip.{back}
 use Rattle.words.proofs.Writing.{channel-short}

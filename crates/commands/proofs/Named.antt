@@ -13,8 +13,9 @@ use lib.Seq.{take-all, drop-drop}
 use borrow.Author.Tests.{not-true, not-false}
 use Rattle.machine.specs.declared.Channel.{Channel}
 use Rattle.words.specs.declared.Last.{Last}
-use Rattle.words.specs.Words.{Read, found, readChannel, ofChannel}
-use Rattle.words.proofs.Bytes.{none-left}
+use Rattle.numbers.specs.Numbers.{Read, found}
+use Rattle.words.specs.Words.{readChannel, ofChannel}
+use Rattle.numbers.proofs.Bytes.{none-left}
 use Rattle.commands.specs.Commands.{begins, readNamed}
 use Rattle.commands.proofs.Beginnings.{long-enough}
 

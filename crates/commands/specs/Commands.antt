@@ -7,7 +7,8 @@ use mathlib.Core.List.{List, [], _∷_}
 use lib.Dec.{eqb}
 use lib.ListN.{drop}
 use Rattle.machine.specs.declared.Channel.{Channel}
-use Rattle.words.specs.Words.{Read, found, missing, readArgument, readChannel}
+use Rattle.numbers.specs.Numbers.{Read, found, missing, readArgument}
+use Rattle.words.specs.Words.{readChannel}
 use Rattle.words.specs.declared.Last.{Last}
 use Rattle.commands.specs.declared.Command.{Command}
 use Rattle.commands.specs.declared.Command.the-variants as commands

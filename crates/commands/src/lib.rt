@@ -73,8 +73,8 @@ fn read_open(line: &[u8], at: usize) -> Command
     requires { ⌜ at ≤ length (now line) ⌝ }
     ensures { λ r. ⌜ r ≡ readOpen (drop at (now (line .entry))) ⌝ }
 {
-    let signal = words::read_argument(line, at, b' ');
-    let prn = words::read_argument(line, signal.end, b'\n');
+    let signal = numbers::read_argument(line, at, b' ');
+    let prn = numbers::read_argument(line, signal.end, b'\n');
     if !prn.there {
         return Command::Error;
     }
@@ -86,7 +86,7 @@ fn read_seek(line: &[u8], at: usize, last: Last) -> Command
     ensures { λ r. ⌜ r ≡ readSeek last (drop at (now (line .entry))) ⌝ }
 {
     let named = read_named(line, at, b' ', last);
-    let place = words::read_argument(line, named.end, b'\n');
+    let place = numbers::read_argument(line, named.end, b'\n');
     if !place.there {
         return Command::Error;
     }
@@ -111,9 +111,9 @@ fn read_window(line: &[u8], at: usize, last: Last) -> Command
     ensures { λ r. ⌜ r ≡ readWindow last (drop at (now (line .entry))) ⌝ }
 {
     let named = read_named(line, at, b' ', last);
-    let count = words::read_argument(line, named.end, b' ');
-    let bytes = words::read_argument(line, count.end, b' ');
-    let from = words::read_argument(line, bytes.end, b'\n');
+    let count = numbers::read_argument(line, named.end, b' ');
+    let bytes = numbers::read_argument(line, count.end, b' ');
+    let from = numbers::read_argument(line, bytes.end, b'\n');
     if !from.there {
         return Command::Error;
     }
@@ -125,10 +125,10 @@ fn read_chips(line: &[u8], at: usize) -> Command
     requires { ⌜ at ≤ length (now line) ⌝ }
     ensures { λ r. ⌜ r ≡ readChips (drop at (now (line .entry))) ⌝ }
 {
-    let signal = words::read_argument(line, at, b' ');
-    let prn = words::read_argument(line, signal.end, b' ');
-    let place = words::read_argument(line, prn.end, b' ');
-    let bytes = words::read_argument(line, place.end, b'\n');
+    let signal = numbers::read_argument(line, at, b' ');
+    let prn = numbers::read_argument(line, signal.end, b' ');
+    let place = numbers::read_argument(line, prn.end, b' ');
+    let bytes = numbers::read_argument(line, place.end, b'\n');
     if !bytes.there {
         return Command::Error;
     }
@@ -139,8 +139,8 @@ fn read_reading(line: &[u8], at: usize) -> Command
     requires { ⌜ at ≤ length (now line) ⌝ }
     ensures { λ r. ⌜ r ≡ readReading (drop at (now (line .entry))) ⌝ }
 {
-    let signal = words::read_argument(line, at, b' ');
-    let place = words::read_argument(line, signal.end, b'\n');
+    let signal = numbers::read_argument(line, at, b' ');
+    let place = numbers::read_argument(line, signal.end, b'\n');
     if !place.there {
         return Command::Error;
     }
@@ -151,9 +151,9 @@ fn read_place_of(line: &[u8], at: usize) -> Command
     requires { ⌜ at ≤ length (now line) ⌝ }
     ensures { λ r. ⌜ r ≡ readPlaceOf (drop at (now (line .entry))) ⌝ }
 {
-    let signal = words::read_argument(line, at, b' ');
-    let epoch = words::read_argument(line, signal.end, b' ');
-    let chip = words::read_argument(line, epoch.end, b'\n');
+    let signal = numbers::read_argument(line, at, b' ');
+    let epoch = numbers::read_argument(line, signal.end, b' ');
+    let chip = numbers::read_argument(line, epoch.end, b'\n');
     if !chip.there {
         return Command::Error;
     }
@@ -164,9 +164,9 @@ fn read_gap(line: &[u8], at: usize) -> Command
     requires { ⌜ at ≤ length (now line) ⌝ }
     ensures { λ r. ⌜ r ≡ readGap (drop at (now (line .entry))) ⌝ }
 {
-    let signal = words::read_argument(line, at, b' ');
-    let a = words::read_argument(line, signal.end, b' ');
-    let b = words::read_argument(line, a.end, b'\n');
+    let signal = numbers::read_argument(line, at, b' ');
+    let a = numbers::read_argument(line, signal.end, b' ');
+    let b = numbers::read_argument(line, a.end, b'\n');
     if !b.there {
         return Command::Error;
     }

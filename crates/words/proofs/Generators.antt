@@ -11,8 +11,9 @@ use Rattle.machine.specs.declared.Mode.{Mode}
 use Rattle.machine.specs.declared.Mode.the-variants as modes
 use Rattle.machine.specs.declared.Generator.{Generator}
 use Rattle.fields.specs.Fields.{digit}
-use Rattle.words.specs.Words.{Read, found, missing, most32, numberWord, modeWord, generatorWord, readNumber, readRunning, heldFrom, readMode, generatorFrom, readGenerator, ModeFits, GeneratorFits}
-use Rattle.words.proofs.Numbers.{number-there, number-back, number-lost}
+use Rattle.numbers.specs.Numbers.{Read, found, missing, most32, numberWord, readNumber}
+use Rattle.words.specs.Words.{modeWord, generatorWord, readRunning, heldFrom, readMode, generatorFrom, readGenerator, ModeFits, GeneratorFits}
+use Rattle.numbers.proofs.Numbers.{number-there, number-back, number-lost}
 
 -- A word stands where one could be read behind it.
 pub was-there : {A : Type 0} (r : Read A) (later : List ℕ → Bool) → (r .there ≡ false → r .rest ≡ []) → later [] ≡ false → later (r .rest) ≡ true → r .there ≡ true

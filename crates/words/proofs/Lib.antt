@@ -1,5 +1,4 @@
-pub mod Numbers
-pub mod Bytes
+pub mod Modes
 pub mod Generators
 pub mod RoundTrip
 pub mod Writing

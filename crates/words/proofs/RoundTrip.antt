@@ -10,8 +10,9 @@ use native.Mathlib.Omega.{arith}
 use Rattle.machine.specs.declared.Generator.{Generator}
 use Rattle.machine.specs.declared.Channel.{Channel}
 use Rattle.fields.specs.Fields.{digit}
-use Rattle.words.specs.Words.{Read, found, most32, most64, numberWord, generatorWord, generatorsWord, channelWord, readNumber, readGenerator, channelFrom, readChannel, ChannelFits}
-use Rattle.words.proofs.Numbers.{number-there, number-back, number-lost}
+use Rattle.numbers.specs.Numbers.{Read, found, most32, most64, numberWord, readNumber}
+use Rattle.words.specs.Words.{generatorWord, generatorsWord, channelWord, readGenerator, channelFrom, readChannel, ChannelFits}
+use Rattle.numbers.proofs.Numbers.{number-there, number-back, number-lost}
 use Rattle.words.proofs.Generators.{was-there, none-behind, four, number-read, generator-there, generator-back, generator-lost, no-generator, none-behind-it}
 
 -- five words before the rest of a text

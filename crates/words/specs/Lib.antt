@@ -1,2 +1,2 @@
--- Numbers and channels as words of text, and how such words are read.
+-- Channels as words of text, and how such words are read.
 pub mod Words

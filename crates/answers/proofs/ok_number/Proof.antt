@@ -2,7 +2,7 @@
 -- Assumes nothing.
 use mathlib.Core.List.{[], _∷_}
 use borrow.Author.Needs.{needs}
-use Rattle.words.specs.Words.{numberWord}
+use Rattle.numbers.specs.Numbers.{numberWord}
 use Rattle.answers.proofs.Lines.{two-words}
 use Rattle.answers.proofs.ok_number.Statement.{statement}
 use Rattle.answers.proofs.ok_number.Tie as tie

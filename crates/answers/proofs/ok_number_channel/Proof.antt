@@ -3,8 +3,9 @@
 use mathlib.Core.List.{[], _∷_}
 use native.Mathlib.Omega.{arith}
 use borrow.Author.Needs.{needs}
-use Rattle.words.proofs.Numbers.{number-short}
-use Rattle.words.specs.Words.{numberWord, channelWord}
+use Rattle.numbers.proofs.Numbers.{number-short}
+use Rattle.numbers.specs.Numbers.{numberWord}
+use Rattle.words.specs.Words.{channelWord}
 use Rattle.texts.proofs.Written.{puts-room}
 use Rattle.answers.proofs.Lines.{three-words}
 use Rattle.answers.proofs.ok_number_channel.Statement.{statement}

@@ -6,7 +6,7 @@ use lib.IntN.{natAbs}
 use mir.Syntax.{w64}
 use mir.ValLaws.{toZ-ofZ}
 use borrow.Author.Needs.{needs}
-use Rattle.words.specs.Words.{numberWord}
+use Rattle.numbers.specs.Numbers.{numberWord}
 use Rattle.texts.proofs.Written.{begins-as}
 use Rattle.places.proofs.Sizes.{negative, other}
 use Rattle.answers.specs.Answers.{ok, signedWord}

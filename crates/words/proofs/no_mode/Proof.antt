@@ -6,7 +6,7 @@ use mathlib.Core.List.{List}
 use mathlib.Core.Path.{ap}
 use native.Mathlib.Omega.{arith}
 use Rattle.machine.specs.declared.Mode.the-variants as modes
-use Rattle.words.proofs.Bytes.{none-left}
+use Rattle.numbers.proofs.Bytes.{none-left}
 use Rattle.words.proofs.no_mode.Statement.{statement}
 use Rattle.words.proofs.no_mode.Tie as tie
 

@@ -4,9 +4,10 @@ use mathlib.Core.List.{_++_}
 use native.Mathlib.Omega.{arith}
 use borrow.Author.Needs.{needs}
 use Rattle.texts.proofs.Written.{puts-more, puts-room}
-use Rattle.words.specs.Words.{numberWord, generatorsWord, channelWord}
+use Rattle.numbers.specs.Numbers.{numberWord}
+use Rattle.words.specs.Words.{generatorsWord, channelWord}
 use Rattle.words.proofs.Writing.{four-put}
-use Rattle.words.proofs.Numbers.{number-short}
+use Rattle.numbers.proofs.Numbers.{number-short}
 use Rattle.words.proofs.put_channel.Statement.{statement}
 use Rattle.words.proofs.put_channel.Tie as tie
 

@@ -3,9 +3,10 @@
 use native.Mathlib.Omega.{arith}
 use borrow.Author.Needs.{needs}
 use Rattle.texts.proofs.Written.{puts-room}
-use Rattle.words.specs.Words.{numberWord, modeWord, generatorWord}
+use Rattle.numbers.specs.Numbers.{numberWord}
+use Rattle.words.specs.Words.{modeWord, generatorWord}
 use Rattle.words.proofs.Writing.{four-put}
-use Rattle.words.proofs.Numbers.{number-short}
+use Rattle.numbers.proofs.Numbers.{number-short}
 use Rattle.words.proofs.put_generator.Statement.{statement}
 use Rattle.words.proofs.put_generator.Tie as tie
 

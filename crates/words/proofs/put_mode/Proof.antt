@@ -7,7 +7,8 @@ use borrow.Author.Needs.{needs}
 use Rattle.texts.proofs.Written.{puts-more}
 use Rattle.texts.specs.Buffers.{Puts}
 use Rattle.machine.specs.declared.Mode.{Mode}
-use Rattle.words.specs.Words.{numberWord, modeWord}
+use Rattle.numbers.specs.Numbers.{numberWord}
+use Rattle.words.specs.Words.{modeWord}
 use Rattle.words.proofs.put_mode.Statement.{statement}
 use Rattle.words.proofs.put_mode.Tie as tie
 

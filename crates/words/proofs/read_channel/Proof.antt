@@ -3,7 +3,8 @@
 use mathlib.Core.Path.{ap, _∙_}
 use native.Mathlib.Omega.{arith}
 use borrow.Author.Needs.{needs}
-use Rattle.words.specs.Words.{ofNumber, ofGenerator, channelFrom, readChannel}
+use Rattle.numbers.specs.Numbers.{ofNumber}
+use Rattle.words.specs.Words.{ofGenerator, channelFrom, readChannel}
 use Rattle.words.proofs.RoundTrip.{afterSignal, afterPrn, afterPlace, afterEpoch, afterDelay, afterFirst, afterSecond, afterThird}
 use Rattle.words.proofs.read_channel.Statement.{statement}
 use Rattle.words.proofs.read_channel.Tie as tie

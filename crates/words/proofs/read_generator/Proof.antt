@@ -2,7 +2,8 @@
 -- Assumes nothing.
 use mathlib.Core.Path.{ap, _∙_}
 use borrow.Author.Needs.{needs}
-use Rattle.words.specs.Words.{ofNumber, generatorFrom, readGenerator}
+use Rattle.numbers.specs.Numbers.{ofNumber}
+use Rattle.words.specs.Words.{generatorFrom, readGenerator}
 use Rattle.words.proofs.Generators.{afterRegister, afterPhase, afterCycles}
 use Rattle.words.proofs.read_generator.Statement.{statement}
 use Rattle.words.proofs.read_generator.Tie as tie

@@ -2,7 +2,7 @@
 -- Assumes nothing.
 use mathlib.Core.Path.{sym, _∙_}
 use borrow.Author.Needs.{needs}
-use Rattle.words.proofs.Bytes.{no-mode, is-running, is-held, other-mode}
+use Rattle.words.proofs.Modes.{no-mode, is-running, is-held, other-mode}
 use Rattle.words.proofs.read_mode.Statement.{statement}
 use Rattle.words.proofs.read_mode.Tie as tie
 

@@ -3,7 +3,7 @@
 use mathlib.Core.Path.{sym, _∙_}
 use native.Mathlib.Omega.{arith}
 use borrow.Author.Needs.{needs}
-use Rattle.words.proofs.Bytes.{no-running, other-mark, runs}
+use Rattle.words.proofs.Modes.{no-running, other-mark, runs}
 use Rattle.words.proofs.read_running.Statement.{statement}
 use Rattle.words.proofs.read_running.Tie as tie
 

@@ -1,10 +1,10 @@
--- `words::read_argument` meets its contract.
+-- `numbers::read_argument` meets its contract.
 -- Assumes nothing.
 use mathlib.Core.Path.{ap, _∙_}
 use borrow.Author.Needs.{needs}
-use Rattle.words.specs.Words.{readNumber, readArgument, most64}
-use Rattle.words.proofs.read_argument.Statement.{statement}
-use Rattle.words.proofs.read_argument.Tie as tie
+use Rattle.numbers.specs.Numbers.{readNumber, readArgument, most64}
+use Rattle.numbers.proofs.read_argument.Statement.{statement}
+use Rattle.numbers.proofs.read_argument.Tie as tie
 
 -- src/lib.rt:189:23
 past-zeros-requires : tie.Need-past-zeros-requires

@@ -1,4 +1,4 @@
--- `words::read_number` meets its contract.
+-- `numbers::read_number` meets its contract.
 -- Assumes nothing.
 use mathlib.Core.Bool.{true}
 use mathlib.Core.Path.{_≡_, sym, _∙_}
@@ -7,10 +7,10 @@ use lib.ListN.{getD}
 use borrow.Author.Tests.{not-true, not-false}
 use borrow.Author.Needs.{needs}
 use Rattle.fields.specs.Fields.{digit}
-use Rattle.words.proofs.Bytes.{no-byte, no-first, first-digit}
-use Rattle.words.proofs.Numbers.{digit-range}
-use Rattle.words.proofs.read_number.Statement.{statement}
-use Rattle.words.proofs.read_number.Tie as tie
+use Rattle.numbers.proofs.Bytes.{no-byte, no-first, first-digit}
+use Rattle.numbers.proofs.Numbers.{digit-range}
+use Rattle.numbers.proofs.read_number.Statement.{statement}
+use Rattle.numbers.proofs.read_number.Tie as tie
 
 no-number-requires : tie.Need-no-number-requires
 no-number-requires c κs = search needs

@@ -1,13 +1,13 @@
--- `words::put_number` meets its contract.
+-- `numbers::put_number` meets its contract.
 -- Assumes nothing.
 use Prim.Native.Nat.{_≤_}
 use mathlib.Core.List.{[]}
 use native.Mathlib.Omega.{arith}
 use borrow.Author.Needs.{needs}
-use Rattle.words.proofs.Numbers.{twenty-hold}
-use Rattle.words.proofs.Writing.{digits-room, mark-room, number-put}
-use Rattle.words.proofs.put_number.Statement.{statement}
-use Rattle.words.proofs.put_number.Tie as tie
+use Rattle.numbers.proofs.Numbers.{twenty-hold}
+use Rattle.numbers.proofs.Writing.{digits-room, mark-room, number-put}
+use Rattle.numbers.proofs.put_number.Statement.{statement}
+use Rattle.numbers.proofs.put_number.Tie as tie
 
 decimal-requires : tie.Need-decimal-requires
 decimal-requires c κs = search needs

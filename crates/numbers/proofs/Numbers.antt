@@ -12,7 +12,7 @@ use lib.ListN.{length, length-append}
 use borrow.Author.Tests.{ltb-true, ltb-false, leb-true, leb-false, eqb-true, eq-eqb, ne-eqb, le-leb, lt-ltb, le-ltb}
 use Rattle.io.specs.Digits.{digits, glyph, Fewest}
 use Rattle.fields.specs.Fields.{digit}
-use Rattle.words.specs.Words.{Read, found, missing, digitsIn, numberWord, digitsOn, readNumber}
+use Rattle.numbers.specs.Numbers.{Read, found, missing, digitsIn, numberWord, digitsOn, readNumber}
 
 -- ---- digits
 

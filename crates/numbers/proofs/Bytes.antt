@@ -1,4 +1,4 @@
--- Words in a text, one byte further on: what the readers need, which at byte i have `drop i` of the text before them.
+-- Numbers in a text, one byte further on: what the readers need, which at byte i have `drop i` of the text before them.
 --     none-left                                   at the text's end nothing is left
 --     first-digit, no-first, no-byte              a number's first digit
 --     on-mark, on-more, on-refused, on-end        the bytes behind it
@@ -15,10 +15,9 @@ use lib.Dec.{ltb, leb, eqb}
 use lib.ListN.{length, drop, getD, length-drop, drop-of-length-le}
 use lib.Seq.{drop-cons}
 use borrow.Author.Tests.{leb-true, leb-false, eq-eqb, ne-eqb, le-leb, lt-leb}
-use Rattle.machine.specs.declared.Mode.the-variants as modes
 use Rattle.fields.specs.Fields.{digit}
-use Rattle.words.specs.Words.{found, missing, most32, digitsOn, readNumber, unpadded, readRunning, heldFrom, readMode}
-use Rattle.words.proofs.Numbers.{on-digit}
+use Rattle.numbers.specs.Numbers.{found, missing, digitsOn, readNumber, unpadded}
+use Rattle.numbers.proofs.Numbers.{on-digit}
 
 pub none-left : (l : List ℕ) → drop (length l) l ≡ []
 none-left l = drop-of-length-le l {i = length l} (omega arith)
@@ -130,35 +129,3 @@ module _ (l : List ℕ) (i : ℕ) where
     zero-passed (suc k) some e =
         let less : suc k - 1 ≡ k = omega arith in
         zeros-by k true e ∙ ap (λ (n : ℕ). unpadded n (drop (i + 1) l)) (sym less)
-
--- ---- modes
-
-module _ (mark : ℕ) (l : List ℕ) (i : ℕ) where
-  pub no-running : length l ≤ i → readRunning mark (drop i l) ≡ missing modes.Running
-  no-running h = rw (drop-of-length-le l h) refl
-
-  pub no-mode : length l ≤ i → readMode mark (drop i l) ≡ missing modes.Running
-  unfolding readMode
-  no-mode h = rw (drop-of-length-le l h) refl
-
-module _ (mark : ℕ) (l : List ℕ) (i : ℕ) (h : i < length l) where
-  pub other-mark : (getD l i 0 ≡ mark → ⊥) → readRunning mark (drop i l) ≡ missing modes.Running
-  other-mark e = ap (readRunning mark) (drop-cons l i 0 h) ∙ rw (ne-eqb (getD l i 0) mark e) refl
-
-  pub runs : getD l i 0 ≡ mark → readRunning mark (drop i l) ≡ found modes.Running (drop (i + 1) l)
-  runs e = ap (readRunning mark) (drop-cons l i 0 h) ∙ rw (eq-eqb (getD l i 0) mark e, add-one i) refl
-
-  mode-byte : readMode mark (drop i l) ≡ readMode mark (getD l i 0 ∷ drop (i + 1) l)
-  mode-byte = rw (add-one i) (ap (readMode mark) (drop-cons l i 0 h))
-
-  pub is-running : getD l i 0 ≡ 82 → readMode mark (drop i l) ≡ readRunning mark (drop (i + 1) l)
-  unfolding readMode
-  is-running e = mode-byte ∙ ap (λ (b : ℕ). readMode mark (b ∷ drop (i + 1) l)) e
-
-  pub is-held : getD l i 0 ≡ 72 → readMode mark (drop i l) ≡ heldFrom (readNumber most32 mark (drop (i + 1) l))
-  unfolding readMode
-  is-held e = mode-byte ∙ ap (λ (b : ℕ). readMode mark (b ∷ drop (i + 1) l)) e
-
-  pub other-mode : (getD l i 0 ≡ 82 → ⊥) → (getD l i 0 ≡ 72 → ⊥) → readMode mark (drop i l) ≡ missing modes.Running
-  unfolding readMode
-  other-mode r k = mode-byte ∙ rw (ne-eqb (getD l i 0) 82 r, ne-eqb (getD l i 0) 72 k) refl

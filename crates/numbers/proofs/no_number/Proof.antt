@@ -1,12 +1,12 @@
--- `words::no_number` meets its contract.
+-- `numbers::no_number` meets its contract.
 -- Assumes nothing.
 use Prim.Native.Nat.{ℕ}
 use mathlib.Core.Bool.{false}
 use mathlib.Core.List.{List}
 use mathlib.Core.Path.{refl, ap}
-use Rattle.words.proofs.Bytes.{none-left}
-use Rattle.words.proofs.no_number.Statement.{statement}
-use Rattle.words.proofs.no_number.Tie as tie
+use Rattle.numbers.proofs.Bytes.{none-left}
+use Rattle.numbers.proofs.no_number.Statement.{statement}
+use Rattle.numbers.proofs.no_number.Tie as tie
 
 returns : tie.Need-returns
 returns c =

@@ -1,4 +1,4 @@
--- `words::read_digits` meets its contract.
+-- `numbers::read_digits` meets its contract.
 -- Assumes nothing.
 use Prim.Native.Nat.{_-_, _≤_, _<_}
 use mathlib.Core.Path.{_≡_, refl, sym, _∙_}
@@ -6,11 +6,11 @@ use native.Mathlib.Omega.{arith}
 use lib.ListN.{length, drop, getD}
 use borrow.Author.Tests.{not-true, not-false}
 use borrow.Author.Needs.{needs}
-use Rattle.words.specs.Words.{digitsOn}
-use Rattle.words.proofs.Bytes.{on-mark, on-refused, on-more, on-end}
-use Rattle.words.proofs.Numbers.{follows}
-use Rattle.words.proofs.read_digits.Statement.{statement}
-use Rattle.words.proofs.read_digits.Tie as tie
+use Rattle.numbers.specs.Numbers.{digitsOn}
+use Rattle.numbers.proofs.Bytes.{on-mark, on-refused, on-more, on-end}
+use Rattle.numbers.proofs.Numbers.{follows}
+use Rattle.numbers.proofs.read_digits.Statement.{statement}
+use Rattle.numbers.proofs.read_digits.Tie as tie
 
 abbrev Inv-loop : tie.InvT-loop
 Inv-loop text from first most mark n₀ i₀ n i = (i ≤ length text) × ((n ≤ most) × ((9 ≤ most) × (digitsOn most mark first (drop from text) ≡ digitsOn most mark n (drop i text))))

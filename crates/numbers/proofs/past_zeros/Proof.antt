@@ -1,4 +1,4 @@
--- `words::past_zeros` meets its contract.
+-- `numbers::past_zeros` meets its contract.
 -- Assumes nothing.
 use Prim.Native.Nat.{ℕ, _+_, _≤_, _<_}
 use mathlib.Core.Path.{_≡_, refl, sym, ap, _∙_}
@@ -9,10 +9,10 @@ use lib.ListN.{length, drop, getD}
 use borrow.Author.Tests.{not-true, not-false}
 use borrow.Author.Needs.{needs}
 use Rattle.fields.specs.Fields.{digit}
-use Rattle.words.specs.Words.{unpadded}
-use Rattle.words.proofs.Bytes.{none-behind-zero, zeros-end, zero-passed}
-use Rattle.words.proofs.past_zeros.Statement.{statement}
-use Rattle.words.proofs.past_zeros.Tie as tie
+use Rattle.numbers.specs.Numbers.{unpadded}
+use Rattle.numbers.proofs.Bytes.{none-behind-zero, zeros-end, zero-passed}
+use Rattle.numbers.proofs.past_zeros.Statement.{statement}
+use Rattle.numbers.proofs.past_zeros.Tie as tie
 
 abbrev Inv-loop : tie.InvT-loop
 Inv-loop text from at₀ left₀ at left = (at ≤ length text) × (unpadded 19 (drop from text) ≡ unpadded left (drop at text))

@@ -1,4 +1,4 @@
--- `words::may_follow` meets its contract.
+-- `numbers::may_follow` meets its contract.
 -- Assumes nothing.
 use mathlib.Core.Bool.{true}
 use mathlib.Core.Path.{_≡_, sym, _∙_}
@@ -6,10 +6,10 @@ use native.Mathlib.Omega.{arith}
 use borrow.Author.Tests.{not-true, not-false}
 use borrow.Author.Needs.{needs}
 use Rattle.fields.specs.Fields.{digit}
-use Rattle.words.proofs.Bytes.{no-follow, follow}
-use Rattle.words.proofs.Numbers.{digit-range}
-use Rattle.words.proofs.may_follow.Statement.{statement}
-use Rattle.words.proofs.may_follow.Tie as tie
+use Rattle.numbers.proofs.Bytes.{no-follow, follow}
+use Rattle.numbers.proofs.Numbers.{digit-range}
+use Rattle.numbers.proofs.may_follow.Statement.{statement}
+use Rattle.numbers.proofs.may_follow.Tie as tie
 
 is-digit-requires : tie.Need-is-digit-requires
 is-digit-requires c κs = search needs

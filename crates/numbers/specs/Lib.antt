@@ -1,0 +1,2 @@
+-- Numbers as words of text, and how such words are read.
+pub mod Numbers
