@@ -106,7 +106,7 @@ fn seek_g1(place: u64, count: u32) -> Brought
         register: starts::start_g1(),
         count,
     };
-    placed(at, leaps::leap_g1(from, at.phase))
+    placed(at, leap_tables::leap_g1(from, at.phase))
 }
 
 fn seek_g2(place: u64, count: u32) -> Brought
@@ -118,7 +118,7 @@ fn seek_g2(place: u64, count: u32) -> Brought
         register: starts::start_g2(),
         count,
     };
-    placed(at, leaps::leap_g2(from, at.phase))
+    placed(at, leap_tables::leap_g2(from, at.phase))
 }
 
 fn seek_x1a(place: u64, count: u32) -> Brought
@@ -130,7 +130,7 @@ fn seek_x1a(place: u64, count: u32) -> Brought
         register: starts::start_x1a(),
         count,
     };
-    placed(at, leaps::leap_x1a(from, at.phase))
+    placed(at, leap_tables::leap_x1a(from, at.phase))
 }
 
 fn seek_x1b(place: u64, count: u32) -> Brought
@@ -142,7 +142,7 @@ fn seek_x1b(place: u64, count: u32) -> Brought
         register: starts::start_x1b(),
         count,
     };
-    placed(at, leaps::leap_x1b(from, at.phase))
+    placed(at, leap_tables::leap_x1b(from, at.phase))
 }
 
 fn seek_x2a(place: u64, count: u32) -> Brought
@@ -154,7 +154,7 @@ fn seek_x2a(place: u64, count: u32) -> Brought
         register: starts::start_x2a(),
         count,
     };
-    placed(at, leaps::leap_x2a(from, at.phase))
+    placed(at, leap_tables::leap_x2a(from, at.phase))
 }
 
 fn seek_x2b(place: u64, count: u32) -> Brought
@@ -166,7 +166,7 @@ fn seek_x2b(place: u64, count: u32) -> Brought
         register: starts::start_x2b(),
         count,
     };
-    placed(at, leaps::leap_x2b(from, at.phase))
+    placed(at, leap_tables::leap_x2b(from, at.phase))
 }
 
 fn seek_cm(start: u32, place: u64, count: u32) -> Brought
@@ -179,7 +179,7 @@ fn seek_cm(start: u32, place: u64, count: u32) -> Brought
         register: start,
         count,
     };
-    placed(at, leaps::leap_l2(from, at.phase))
+    placed(at, leap_tables::leap_l2(from, at.phase))
 }
 
 fn seek_cl(start: u32, place: u64, count: u32) -> Brought
@@ -192,7 +192,7 @@ fn seek_cl(start: u32, place: u64, count: u32) -> Brought
         register: start,
         count,
     };
-    placed(at, leaps::leap_l2(from, at.phase))
+    placed(at, leap_tables::leap_l2(from, at.phase))
 }
 
 fn seek_xa(place: u64, count: u32) -> Brought
@@ -204,7 +204,7 @@ fn seek_xa(place: u64, count: u32) -> Brought
         register: starts::start_xa(),
         count,
     };
-    placed(at, leaps::leap_xa(from, at.phase))
+    placed(at, leap_tables::leap_xa(from, at.phase))
 }
 
 fn seek_xb(start: u32, place: u64, count: u32) -> Brought
@@ -217,7 +217,7 @@ fn seek_xb(start: u32, place: u64, count: u32) -> Brought
         register: start,
         count,
     };
-    placed(at, leaps::leap_xb(from, at.phase))
+    placed(at, leap_tables::leap_xb(from, at.phase))
 }
 
 // ---- the delay line

@@ -1,13 +1,13 @@
--- `leaps::leap_l2` meets its contract, by the law of leaps: `tt` is the rule of L2's table, tested over all of its 540 numbers.
+-- `leap_tables::leap_l2` meets its contract, by the law of leaps: `tt` is the rule of L2's table, tested over all of its 540 numbers.
 -- Assumes nothing.
 use borrow.Author.Needs.{needs}
 use Rattle.registers.specs.Register.{shiftL2}
 use Rattle.registers.specs.Row.{combine}
 use Rattle.registers.proofs.Linear.{columns}
 use Rattle.registers.proofs.Shifts.{l2}
 use Rattle.leaps.proofs.LawOfLeaps.{by-table}
-use Rattle.leaps.proofs.leap_l2.Statement.{statement}
-use Rattle.leaps.proofs.leap_l2.Tie as tie
+use Rattle.leap_tables.proofs.leap_l2.Statement.{statement}
+use Rattle.leap_tables.proofs.leap_l2.Tie as tie
 
 slice-aggregate-leap-to : tie.Need-slice-aggregate-leap-to
 slice-aggregate-leap-to c = search needs

@@ -1,13 +1,13 @@
--- `leaps::leap_x2a` meets its contract, by the law of leaps: `tt` is the rule of X2A's table, tested over all of its 144 numbers.
+-- `leap_tables::leap_x2a` meets its contract, by the law of leaps: `tt` is the rule of X2A's table, tested over all of its 144 numbers.
 -- Assumes nothing.
 use borrow.Author.Needs.{needs}
 use Rattle.registers.specs.Register.{stage, sumOf, shift}
 use Rattle.registers.specs.Row.{combine}
 use Rattle.registers.proofs.Linear.{columns}
 use Rattle.registers.proofs.Shifts.{x2a}
 use Rattle.leaps.proofs.LawOfLeaps.{by-table}
-use Rattle.leaps.proofs.leap_x2a.Statement.{statement}
-use Rattle.leaps.proofs.leap_x2a.Tie as tie
+use Rattle.leap_tables.proofs.leap_x2a.Statement.{statement}
+use Rattle.leap_tables.proofs.leap_x2a.Tie as tie
 
 slice-aggregate-leap-to : tie.Need-slice-aggregate-leap-to
 slice-aggregate-leap-to c = search needs
