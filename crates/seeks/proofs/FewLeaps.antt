@@ -14,7 +14,7 @@ use Rattle.week.specs.Week.{courses, noCourses, courseG, courseX1A, courseX1B, 
 use Rattle.week.specs.Week.{coursesL5}
 use Rattle.seeks.specs.Leaps.{leapsTo}
 use Rattle.seeks.specs.Inner.{onesAt}
-use Rattle.seeks.proofs.Phases.{phase-lt, none-made}
+use Rattle.generators_at.proofs.Phases.{phase-lt, none-made}
 use Rattle.seeks.proofs.Landing.{leaps-are}
 
 -- the most leaps of each signal, in the order of the list

@@ -25,11 +25,12 @@ use Rattle.week.proofs.SignalWeeks.{no-line}
 use Rattle.week.proofs.DelayLine.{line-from}
 use Rattle.week.proofs.LawOfTheWeek.{law-of-the-week, at-place}
 use Rattle.seeks.specs.Leaps.{phaseOnes, leapsTo}
-use Rattle.seeks.specs.declared.Brought.{Brought}
+use Rattle.generators_at.specs.declared.Brought.{Brought}
 use Rattle.seeks.specs.declared.Fill.{Fill}
 use Rattle.seeks.specs.declared.Landed.{Landed}
-use Rattle.seeks.specs.Inner.{brought, Filled, plainLanded, onesAt, landed, landedAt}
-use Rattle.seeks.proofs.Phases.{phase-lt, none-made}
+use Rattle.generators_at.specs.Inner.{brought}
+use Rattle.seeks.specs.Inner.{Filled, plainLanded, onesAt, landed, landedAt}
+use Rattle.generators_at.proofs.Phases.{phase-lt, none-made}
 
 pub counts-few : (k : Kind) (c : Course) (place count digits : ℕ) (r : Brought) → r ≡ brought k c place count → 0 < c .cycle → c .cycle ≤ 2 ^ digits
     → r .count ≤ count + digits

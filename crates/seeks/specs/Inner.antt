@@ -1,44 +1,17 @@
 -- What the functions of a seek hand to each other.
 -- Assumes nothing.
 use mathlib.Core.Path.{_≡_}
-use Prim.Native.Nat.{ℕ, _+_, _-_, _^_, _≤_, _<_}
+use Prim.Native.Nat.{ℕ, _+_, _-_, _^_}
 use lib.Count.{ones}
-use Rattle.leaps.specs.declared.Leapt.{Leapt}
-use Rattle.machine.specs.Generators.{Kind, fresh}
+use Rattle.machine.specs.Generators.{fresh}
 use Rattle.machine.specs.Signals.{Signal, signalP, x2a, x2b}
 use Rattle.machine.specs.Machine.{advance, opened}
 use Rattle.machine.specs.declared.Generator.{Generator}
-use Rattle.week.specs.declared.Course.{Course}
-use Rattle.week.specs.declared.Standing.{Standing}
 use Rattle.week.specs.Standing.{standingAt, generatorAt}
 use Rattle.week.specs.Week.{Courses, chipX2, lineFrom, channelAt, coursesP, courseX2A, courseX2B}
 use Rattle.seeks.specs.Leaps.{leapsTo}
-use Rattle.seeks.specs.declared.Brought.{Brought}
 use Rattle.seeks.specs.declared.Landed.{Landed}
 use Rattle.seeks.specs.declared.Fill.{Fill}
-
--- a course of numbers that fit the code's, at a place of its week
-pub record Fits (c : Course) (w : ℕ) : Type 0 where
-  pub cycle-some : 0 < c .cycle
-  pub period-some : 0 < c .period
-  pub period-in : c .period < 2 ^ 32
-  pub runs-in : c .runs ≤ c .period
-  pub place-in : w < c .week
-  pub hold-in : c .week ≤ c .stop + 2 ^ 32
-
--- a generator where it stands, with its register brought there
-abbrev pub placedAs : Standing → Leapt → Brought
-placedAs at leapt =
-    record { generator = record { register = leapt .register; phase = at .phase; cycles = at .cycles; mode = at .mode }; count = leapt .count }
-
--- a generator at a place, and the count raised by the ones of its phase
-abbrev pub brought : Kind → Course → ℕ → ℕ → Brought
-brought k c place count = record { generator = generatorAt k c place; count = count + ones (standingAt c place .phase) }
-
--- a place of a week of so many, and room for the count
-pub record Asked (week place count : ℕ) : Type 0 where
-  pub place-in : place < week
-  pub count-in : count < 2 ^ 10
 
 -- X2A, X2B and the delay line at a place, filled from another on; the X2 chips are the same for every PRN
 pub record Filled (from place : ℕ) (f : Fill) : Type 0 where

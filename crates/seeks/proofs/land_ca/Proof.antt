@@ -6,7 +6,7 @@ use lib.Dec.{lit<, lit≤}
 use borrow.Author.Needs.{needs}
 use Rattle.machine.specs.Signals.{weekCA, g1, g2}
 use Rattle.week.specs.Week.{courseG}
-use Rattle.seeks.specs.declared.Brought.{Brought}
+use Rattle.generators_at.specs.declared.Brought.{Brought}
 use Rattle.seeks.proofs.Landing.{counts-few, plain-landed}
 use Rattle.seeks.proofs.land_ca.Statement.{statement}
 use Rattle.seeks.proofs.land_ca.Tie as tie

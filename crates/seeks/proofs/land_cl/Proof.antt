@@ -5,8 +5,8 @@ use native.Mathlib.Omega.{arith}
 use borrow.Author.Needs.{needs}
 use Rattle.machine.specs.Signals.{weekL2, none, cl}
 use Rattle.week.specs.Week.{idle, courseCL}
-use Rattle.seeks.specs.declared.Brought.{Brought}
-use Rattle.seeks.proofs.Phases.{none-made}
+use Rattle.generators_at.specs.declared.Brought.{Brought}
+use Rattle.generators_at.proofs.Phases.{none-made}
 use Rattle.seeks.proofs.Landing.{lacking-at, plain-landed}
 use Rattle.seeks.proofs.land_cl.Statement.{statement}
 use Rattle.seeks.proofs.land_cl.Tie as tie

@@ -6,7 +6,7 @@ use lib.Dec.{lit<, lit≤}
 use borrow.Author.Needs.{needs}
 use Rattle.machine.specs.Signals.{weekL5, xa, xb}
 use Rattle.week.specs.Week.{courseXA, courseXB}
-use Rattle.seeks.specs.declared.Brought.{Brought}
+use Rattle.generators_at.specs.declared.Brought.{Brought}
 use Rattle.seeks.proofs.Landing.{counts-few, plain-landed}
 use Rattle.seeks.proofs.land_l5.Statement.{statement}
 use Rattle.seeks.proofs.land_l5.Tie as tie

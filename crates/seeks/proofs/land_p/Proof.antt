@@ -6,7 +6,7 @@ use lib.Dec.{lit<, lit≤}
 use borrow.Author.Needs.{needs}
 use Rattle.machine.specs.Signals.{x1a, x1b, x2a}
 use Rattle.week.specs.Week.{courseX1A, courseX1B, courseX2A}
-use Rattle.seeks.specs.declared.Brought.{Brought}
+use Rattle.generators_at.specs.declared.Brought.{Brought}
 use Rattle.seeks.proofs.Landing.{counts-few, p-landed}
 use Rattle.seeks.proofs.land_p.Statement.{statement}
 use Rattle.seeks.proofs.land_p.Tie as tie

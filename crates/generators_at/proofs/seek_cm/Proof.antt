@@ -1,4 +1,4 @@
--- `seeks::seek_cm` meets its contract.
+-- `generators_at::seek_cm` meets its contract.
 -- Assumes nothing.
 use mathlib.Core.Path.{refl, ap, _∙_, subst⁻¹}
 use lib.Dec.{lit<, lit≤}
@@ -7,10 +7,10 @@ use Rattle.machine.specs.Signals.{cm}
 use Rattle.week.specs.declared.Course.{Course}
 use Rattle.week.specs.Standing.{standingAt}
 use Rattle.week.specs.Week.{courseCM}
-use Rattle.seeks.specs.Inner.{Fits}
-use Rattle.seeks.proofs.Phases.{fitting, fits, leap-asks, brought-is}
-use Rattle.seeks.proofs.seek_cm.Statement.{statement}
-use Rattle.seeks.proofs.seek_cm.Tie as tie
+use Rattle.generators_at.specs.Inner.{Fits}
+use Rattle.generators_at.proofs.Phases.{fitting, fits, leap-asks, brought-is}
+use Rattle.generators_at.proofs.seek_cm.Statement.{statement}
+use Rattle.generators_at.proofs.seek_cm.Tie as tie
 
 course-cm-requires : tie.Need-course-cm-requires
 course-cm-requires c κs = search needs

@@ -1,4 +1,4 @@
--- `seeks::seek_x2b` meets its contract.
+-- `generators_at::seek_x2b` meets its contract.
 -- Assumes nothing.
 use mathlib.Core.Path.{ap, _∙_, subst⁻¹}
 use Prim.Native.Nat.{ℕ, _<_, _^_}
@@ -8,10 +8,10 @@ use Rattle.machine.specs.Signals.{x2b}
 use Rattle.week.specs.declared.Course.{Course}
 use Rattle.week.specs.Standing.{standingAt}
 use Rattle.week.specs.Week.{courseX2B}
-use Rattle.seeks.specs.Inner.{Fits}
-use Rattle.seeks.proofs.Phases.{fitting, fits, leap-asks, brought-is}
-use Rattle.seeks.proofs.seek_x2b.Statement.{statement}
-use Rattle.seeks.proofs.seek_x2b.Tie as tie
+use Rattle.generators_at.specs.Inner.{Fits}
+use Rattle.generators_at.proofs.Phases.{fitting, fits, leap-asks, brought-is}
+use Rattle.generators_at.proofs.seek_x2b.Statement.{statement}
+use Rattle.generators_at.proofs.seek_x2b.Tie as tie
 
 course-x2b-requires : tie.Need-course-x2b-requires
 course-x2b-requires c κs = search needs

@@ -1,4 +1,4 @@
--- `seeks::seek_x1a` meets its contract.
+-- `generators_at::seek_x1a` meets its contract.
 -- Assumes nothing.
 use mathlib.Core.Path.{ap, _∙_, subst⁻¹}
 use Prim.Native.Nat.{ℕ, _<_, _^_}
@@ -8,10 +8,10 @@ use Rattle.machine.specs.Signals.{x1a}
 use Rattle.week.specs.declared.Course.{Course}
 use Rattle.week.specs.Standing.{standingAt}
 use Rattle.week.specs.Week.{courseX1A}
-use Rattle.seeks.specs.Inner.{Fits}
-use Rattle.seeks.proofs.Phases.{fitting, fits, leap-asks, brought-is}
-use Rattle.seeks.proofs.seek_x1a.Statement.{statement}
-use Rattle.seeks.proofs.seek_x1a.Tie as tie
+use Rattle.generators_at.specs.Inner.{Fits}
+use Rattle.generators_at.proofs.Phases.{fitting, fits, leap-asks, brought-is}
+use Rattle.generators_at.proofs.seek_x1a.Statement.{statement}
+use Rattle.generators_at.proofs.seek_x1a.Tie as tie
 
 course-x1a-requires : tie.Need-course-x1a-requires
 course-x1a-requires c κs = search needs

@@ -1,12 +1,12 @@
--- `seeks::standing` meets its contract.
+-- `generators_at::standing` meets its contract.
 -- Assumes nothing.
 use native.Mathlib.Omega.{arith}
 use native.Mathlib.Nat.{mod-lt}
 use borrow.Author.Tests.{lt-ltb, le-ltb}
 use borrow.Author.Needs.{needs}
 use Rattle.week.specs.Standing.{standingAt}
-use Rattle.seeks.proofs.standing.Statement.{statement}
-use Rattle.seeks.proofs.standing.Tie as tie
+use Rattle.generators_at.proofs.standing.Statement.{statement}
+use Rattle.generators_at.proofs.standing.Tie as tie
 
 rem-in-period : tie.Need-rem-in-period
 rem-in-period c = search needs

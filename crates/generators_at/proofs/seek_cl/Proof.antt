@@ -1,4 +1,4 @@
--- `seeks::seek_cl` meets its contract.
+-- `generators_at::seek_cl` meets its contract.
 -- Assumes nothing.
 use mathlib.Core.Path.{refl, ap, _∙_, subst⁻¹}
 use lib.Dec.{lit<, lit≤}
@@ -7,10 +7,10 @@ use Rattle.machine.specs.Signals.{cl}
 use Rattle.week.specs.declared.Course.{Course}
 use Rattle.week.specs.Standing.{standingAt}
 use Rattle.week.specs.Week.{courseCL}
-use Rattle.seeks.specs.Inner.{Fits}
-use Rattle.seeks.proofs.Phases.{fitting, fits, leap-asks, brought-is}
-use Rattle.seeks.proofs.seek_cl.Statement.{statement}
-use Rattle.seeks.proofs.seek_cl.Tie as tie
+use Rattle.generators_at.specs.Inner.{Fits}
+use Rattle.generators_at.proofs.Phases.{fitting, fits, leap-asks, brought-is}
+use Rattle.generators_at.proofs.seek_cl.Statement.{statement}
+use Rattle.generators_at.proofs.seek_cl.Tie as tie
 
 course-cl-requires : tie.Need-course-cl-requires
 course-cl-requires c κs = search needs

@@ -21,7 +21,7 @@ use Rattle.week.specs.declared.Course.{Course}
 use Rattle.week.specs.declared.Standing.{Standing}
 use Rattle.week.specs.Standing.{inPeriod, standingAt, generatorAt}
 use Rattle.week.specs.Week.{idle}
-use Rattle.seeks.specs.Inner.{Fits, placedAs, brought}
+use Rattle.generators_at.specs.Inner.{Fits, placedAs, brought}
 
 -- ---- courses
 

@@ -1,10 +1,10 @@
--- `seeks::in_period` meets its contract.
+-- `generators_at::in_period` meets its contract.
 -- Assumes nothing.
 use borrow.Author.Tests.{lt-ltb, le-ltb}
 use borrow.Author.Needs.{needs}
 use Rattle.week.specs.Standing.{inPeriod}
-use Rattle.seeks.proofs.in_period.Statement.{statement}
-use Rattle.seeks.proofs.in_period.Tie as tie
+use Rattle.generators_at.proofs.in_period.Statement.{statement}
+use Rattle.generators_at.proofs.in_period.Tie as tie
 
 on-cycle-requires : tie.Need-on-cycle-requires
 on-cycle-requires c κs = search needs

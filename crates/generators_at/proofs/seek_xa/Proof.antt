@@ -1,4 +1,4 @@
--- `seeks::seek_xa` meets its contract.
+-- `generators_at::seek_xa` meets its contract.
 -- Assumes nothing.
 use mathlib.Core.Path.{ap, _∙_, subst⁻¹}
 use Prim.Native.Nat.{ℕ, _<_, _^_}
@@ -8,10 +8,10 @@ use Rattle.machine.specs.Signals.{xa}
 use Rattle.week.specs.declared.Course.{Course}
 use Rattle.week.specs.Standing.{standingAt}
 use Rattle.week.specs.Week.{courseXA}
-use Rattle.seeks.specs.Inner.{Fits}
-use Rattle.seeks.proofs.Phases.{fitting, fits, leap-asks, brought-is}
-use Rattle.seeks.proofs.seek_xa.Statement.{statement}
-use Rattle.seeks.proofs.seek_xa.Tie as tie
+use Rattle.generators_at.specs.Inner.{Fits}
+use Rattle.generators_at.proofs.Phases.{fitting, fits, leap-asks, brought-is}
+use Rattle.generators_at.proofs.seek_xa.Statement.{statement}
+use Rattle.generators_at.proofs.seek_xa.Tie as tie
 
 course-xa-requires : tie.Need-course-xa-requires
 course-xa-requires c κs = search needs

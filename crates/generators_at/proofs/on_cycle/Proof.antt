@@ -1,10 +1,10 @@
--- `seeks::on_cycle` meets its contract.
+-- `generators_at::on_cycle` meets its contract.
 -- Assumes nothing.
 use native.Mathlib.Omega.{arith}
 use native.Mathlib.Nat.{mod-le, div-le-self}
 use borrow.Author.Needs.{needs}
-use Rattle.seeks.proofs.on_cycle.Statement.{statement}
-use Rattle.seeks.proofs.on_cycle.Tie as tie
+use Rattle.generators_at.proofs.on_cycle.Statement.{statement}
+use Rattle.generators_at.proofs.on_cycle.Tie as tie
 
 rem-t4 : tie.Need-rem-t4
 rem-t4 c = search needs
