@@ -7,10 +7,11 @@ set -eu
 cd "$(dirname "$0")/.."
 copy=$(mktemp -d)
 verdict=$copy/rt.log
+memory=
 rt=
 cleanup() {
     [ -z "$rt" ] || kill -- "-$rt" 2>/dev/null || true
-    rm -rf "$copy"
+    rm -rf "$copy" ${memory:+"$memory"}
 }
 trap cleanup EXIT
 trap 'exit 1' INT TERM
@@ -19,6 +20,16 @@ mkdir "$copy/here"
 for part in *; do
     [ "$part" = target ] || cp -R "$part" "$copy/here/"
 done
+
+# Each check writes thousands of small files to TMPDIR. In memory that takes half the system time: there, unless TMPDIR says otherwise, if a GiB is free and
+# programs may run from it.
+room=$(df -Pk /dev/shm 2>/dev/null | awk 'NR == 2 { print $4 }')
+if [ -z "${TMPDIR:-}" ] && [ "${room:-0}" -ge 1048576 ] && memory=$(mktemp -d /dev/shm/gps_chips.XXXXXX 2>/dev/null); then
+    printf '#!/bin/sh\n' >"$memory/probe"
+    chmod 711 "$memory"
+    chmod +x "$memory/probe"
+    if "$memory/probe" 2>/dev/null; then export TMPDIR="$memory"; fi
+fi
 
 # rt starts a batch of jobs and waits for all of it before the next one, so that one job more than there are processors keeps these busy.
 export RT_JOBS="${RT_JOBS:-$(($(nproc) + 1))}"
