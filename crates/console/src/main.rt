@@ -1,9 +1,9 @@
-// The console: reads commands from standard input, a line each, and answers each on standard output. `commands` says what a line asks for, `answers` what
-// a call is answered and `sessions` what is said in a whole session; this is a loop over that.
+// The console: reads commands from standard input, a line each, and answers each on standard output. `commands` says what a line asks for,
+// `channel_answers` and `place_answers` what a call is answered and `sessions` what is said in a whole session; this is a loop over that.
 ghost use Prim.Native.Nat.{_≤_};
 ghost use mathlib.Core.Path.{_≡_};
 ghost use lib.ListN.{length};
-use answers::MOST_LENGTH;
+use answer_lines::MOST_LENGTH;
 use libc::STDERR_FILENO;
 use libc::STDIN_FILENO;
 use libc::STDOUT_FILENO;

@@ -16,7 +16,9 @@ use Rattle.words.specs.declared.Last.{Last}
 use Rattle.commands.specs.Commands.{commandOf}
 use Rattle.commands.specs.declared.Command.{Command}
 use Rattle.commands.specs.declared.Command.the-variants as commands
-use Rattle.answers.specs.Answers.{openLine, seekLine, stepLine, windowAnswered, chipsAnswered, readingLine, placeOfLine, gapLine, errorLine, openedLast, handedBack, windowLast}
+use Rattle.answer_lines.specs.Lines.{errorLine, handedBack}
+use Rattle.channel_answers.specs.ChannelAnswers.{openLine, seekLine, stepLine, windowAnswered, openedLast, windowLast}
+use Rattle.place_answers.specs.PlaceAnswers.{chipsAnswered, readingLine, placeOfLine, gapLine}
 use Rattle.sessions.specs.declared.State.{State}
 
 -- ---- a command

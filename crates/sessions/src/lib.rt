@@ -7,8 +7,8 @@ ghost use Rattle.replies.specs.Reply.{written};
 ghost use Rattle.texts.specs.Buffers.{Begins};
 ghost use Rattle.commands.specs.Commands.{commandOf};
 ghost use Rattle.sessions.specs.Sessions.{answerOf, lastOf, Talk, talk, nothing as Sessions·nothing, nobody, asked, next, said, rest, replies, lastAnswer, kept};
-use answers::Answered;
-use answers::ROOM;
+use answer_lines::Answered;
+use answer_lines::ROOM;
 use commands::Command;
 use machine::Channel;
 use machine::Generator;
@@ -33,35 +33,35 @@ fn answer_command(
 {
     match command {
         Command::Open(signal, prn) => {
-            return answers::open(signal, prn, last, out);
+            return channel_answers::open(signal, prn, last, out);
         }
         Command::Seek(ch, place) => {
-            return answers::seek(ch, place, last, out);
+            return channel_answers::seek(ch, place, last, out);
         }
         Command::Step(ch) => {
-            return answers::step(ch, last, out);
+            return channel_answers::step(ch, last, out);
         }
         Command::Window(ch, count, bytes, at) => {
-            return answers::window(ch, count, bytes, at, last, work, out);
+            return channel_answers::window(ch, count, bytes, at, last, work, out);
         }
         Command::Chips(signal, prn, place, bytes) => {
-            return answers::chips(signal, prn, place, bytes, last, work, out);
+            return place_answers::chips(signal, prn, place, bytes, last, work, out);
         }
         Command::Reading(signal, place) => {
             return Answered {
-                end: answers::reading(signal, place, out),
+                end: place_answers::reading(signal, place, out),
                 last,
             };
         }
         Command::PlaceOf(signal, epoch, chip) => {
             return Answered {
-                end: answers::place_of(signal, epoch, chip, out),
+                end: place_answers::place_of(signal, epoch, chip, out),
                 last,
             };
         }
         Command::Gap(signal, a, b) => {
             return Answered {
-                end: answers::gap(signal, a, b, out),
+                end: place_answers::gap(signal, a, b, out),
                 last,
             };
         }
@@ -72,7 +72,7 @@ fn answer_command(
             };
         }
         Command::Error => {
-            return answers::error(last, out);
+            return answer_lines::error(last, out);
         }
     }
 }

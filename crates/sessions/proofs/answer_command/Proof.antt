@@ -2,7 +2,7 @@
 -- Assumes nothing.
 use mathlib.Core.Path.{refl, sym, subst}
 use borrow.Author.Needs.{needs}
-use Rattle.answers.proofs.Lines.{puts-begins}
+use Rattle.answer_lines.proofs.Lines.{puts-begins}
 use Rattle.sessions.specs.Sessions.{answerOf, lastOf}
 use Rattle.sessions.proofs.Talks.{Told}
 use Rattle.sessions.proofs.answer_command.Statement.{statement}

@@ -4,7 +4,7 @@ use mathlib.Core.Path.{sym}
 use mathlib.Core.List.{[]}
 use borrow.Author.Needs.{needs}
 use Rattle.texts.proofs.Written.{begins-none, begins-as}
-use Rattle.answers.proofs.Lines.{puts-begins}
+use Rattle.answer_lines.proofs.Lines.{puts-begins}
 use Rattle.sessions.specs.Sessions.{answerOf, asked, talk, lastAnswer}
 use Rattle.sessions.proofs.Talks.{none-held, some-held}
 use Rattle.sessions.proofs.finish.Statement.{statement}

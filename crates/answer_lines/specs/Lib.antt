@@ -1,0 +1,2 @@
+-- The parts of an answer of the console.
+pub mod Lines

@@ -1,2 +1,0 @@
--- What the console answers to each call.
-pub mod Answers

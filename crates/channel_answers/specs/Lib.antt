@@ -1,0 +1,2 @@
+-- What the console answers to the calls that hand back a channel.
+pub mod ChannelAnswers
