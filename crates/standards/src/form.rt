@@ -1,9 +1,9 @@
 // The forms of what is written: all of its words, with a mark where the calls give a value.
 use crate::cells;
-use crate::known;
-use crate::tables;
-use crate::tables::Table;
-use crate::text;
+use crate::rows;
+use layout::Table;
+use layout::known;
+use pages::text;
 
 const MARK: u8 = b'#';
 
@@ -29,8 +29,8 @@ fn table(mark: u64) -> Table {
 
 fn put_value(page: &mut [u8], at: usize, marks: Marks, mark: u64) -> usize {
     match marks {
-        Marks::Tables => tables::put_rows(page, at, table(mark)),
-        Marks::KnownPlaces => cells::put_cell(page, at, known::value(mark)),
+        Marks::Tables => rows::put_rows(page, at, table(mark)),
+        Marks::KnownPlaces => cells::put_cell(page, at, known::cell_of(mark)),
     }
 }
 

@@ -1,12 +1,11 @@
-// Writes the tables that the GPS standards print, and the known places of document 01, from the engine's calls. Numbers that stand in here are the layout's: which rows, which
-// columns, which places. The file `stdout` has what the standards print, and the gate compares the two.
+// Writes the tables that the GPS standards print, and the known places of document 01, from the engine's calls. Which rows, columns and places those are is written in
+// `layout`. The file `stdout` has what the standards print, and the gate compares the two.
+use pages::text;
+
 mod cells;
 mod chips;
 mod form;
-mod known;
-mod states;
-mod tables;
-mod text;
+mod rows;
 
 // The bytes of a page: more than the tables have, which are some 10,300.
 const PAGE: usize = 16384;

@@ -1,11 +1,11 @@
--- `standards::tables::put_rows` does nothing undefined and ends.
+-- `standards::rows::put_rows` does nothing undefined and ends.
 -- Assumes nothing.
 use mathlib.Core.Path.{_≡_}
 use Prim.Native.Nat.{_-_}
 use lib.ListN.{length}
 use borrow.Author.Needs.{needs}
-use Rattle.standards.proofs.tables.put_rows.Statement.{statement}
-use Rattle.standards.proofs.tables.put_rows.Tie as tie
+use Rattle.standards.proofs.rows.put_rows.Statement.{statement}
+use Rattle.standards.proofs.rows.put_rows.Tie as tie
 
 abbrev Inv-loop : tie.InvT-loop
 Inv-loop page₀ from table count at₀ row₀ page at row = length page ≡ length page₀

@@ -1,11 +1,11 @@
--- `standards::chips::stages_of` does nothing undefined and ends.
+-- `pages::chips::stages_of` does nothing undefined and ends.
 -- Assumes nothing.
 use mathlib.Core.Path.{_≡_}
 use Prim.Native.Nat.{_≤_}
 use lib.ListN.{length, length-set}
 use borrow.Author.Needs.{needs}
-use Rattle.standards.proofs.chips.stages_of.Statement.{statement}
-use Rattle.standards.proofs.chips.stages_of.Tie as tie
+use Rattle.pages.proofs.chips.stages_of.Statement.{statement}
+use Rattle.pages.proofs.chips.stages_of.Tie as tie
 
 abbrev Inv-loop : tie.InvT-loop
 Inv-loop register stages₀ rest₀ i₀ stages rest i = (i ≤ length stages) × (length stages ≡ length stages₀)

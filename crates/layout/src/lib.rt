@@ -1,23 +1,66 @@
-// The rows of the tables: what stands in each column, which count from 1 as the rows do.
+// The layout of the tables and of the known places: which rows, which columns, and what stands in each cell. No call of the engine. Rows and columns count from 1.
 ghost use Prim.Native.Nat.{_≤_};
-use crate::cells;
-use crate::cells::CA;
-use crate::cells::CL;
-use crate::cells::CM;
-use crate::cells::Cell;
-use crate::cells::I5;
-use crate::cells::P;
-use crate::cells::Q5;
-use crate::states;
-use crate::states::Field;
-use crate::states::X1A;
-use crate::states::X1B;
-use crate::states::X2A;
-use crate::states::X2B;
-use crate::text;
 use machine::LAST_CL;
 use machine::LAST_CM;
 use machine::WEEK_P;
+use pages::CA;
+use pages::CL;
+use pages::CM;
+use pages::I5;
+use pages::P;
+use pages::Q5;
+use pages::values::Value;
+use pages::values::Word;
+
+pub mod known;
+
+// Generators by number. L2 CM's is 1 and L2 CL's is 2.
+pub const X1A: u64 = 1;
+
+pub const X1B: u64 = 2;
+
+pub const X2A: u64 = 3;
+
+pub const X2B: u64 = 4;
+
+pub const XA: u64 = 1;
+
+// ---- cells
+
+// What is seen of a channel.
+pub enum Field {
+    // The leaps that seek told.
+    Leaps,
+    Epoch,
+    // Of a generator.
+    Register(u64),
+    // The number of the chip in its cycle. It counts from 1, where a phase counts from 0.
+    Chip(u64),
+    Phase(u64),
+    Cycles(u64),
+    Hold(u64),
+}
+
+pub enum Cell {
+    // As it stands.
+    Shown(Value),
+    // A field of a signal and a PRN, as open gives it.
+    Opened(u64, u64, Field),
+    // The same where seek brings it, the place before the field.
+    At(u64, u64, u64, Field),
+    // What P's step from a place gives.
+    Step(u64),
+    // Between two places of C/A.
+    Gap(u64, u64),
+    // The first chips of a signal and a PRN, and the start of XB that is read off them.
+    First(u64, u64),
+    Xb(u64, u64),
+    // 256 and 1,024 chips of P, of a PRN from a place on.
+    First256(u64, u64),
+    Last1024(u64, u64),
+}
+
+// ---- tables
 
 pub enum Table {
     // IS-GPS-200 3-Ia, 3-IIa, 3-VI, 3-VII, 6-III, 6-IV
@@ -36,7 +79,7 @@ pub enum Table {
 // Table 3-Ia: the first ten chips of C/A, and the first twelve of P.
 fn code_phase(prn: u64, column: u64) -> Cell {
     match column {
-        1 => Cell::Right(prn, 3, b' '),
+        1 => Cell::Shown(Value::Right(prn, 3, b' ')),
         2 => Cell::First(CA, prn),
         _ => Cell::First(P, prn),
     }
@@ -45,18 +88,18 @@ fn code_phase(prn: u64, column: u64) -> Cell {
 // Table 3-IIa: the states of L2 CM and L2 CL as a channel is opened, and at the last chip of their first periods.
 fn l2_state(prn: u64, column: u64) -> Cell {
     match column {
-        1 => Cell::Right(prn, 3, b' '),
-        2 => states::at_open(CM, prn, Field::Register(1)),
-        3 => states::at_open(CL, prn, Field::Register(2)),
-        4 => states::at_place(CM, prn, LAST_CM as u64, Field::Register(1)),
-        _ => states::at_place(CL, prn, LAST_CL as u64, Field::Register(2)),
+        1 => Cell::Shown(Value::Right(prn, 3, b' ')),
+        2 => Cell::Opened(CM, prn, Field::Register(1)),
+        3 => Cell::Opened(CL, prn, Field::Register(2)),
+        4 => Cell::At(CM, prn, LAST_CM as u64, Field::Register(1)),
+        _ => Cell::At(CL, prn, LAST_CL as u64, Field::Register(2)),
     }
 }
 
 // Table 3-I of IS-GPS-705.
 fn xb_state(prn: u64, column: u64) -> Cell {
     match column {
-        1 => Cell::Right(prn, 3, b' '),
+        1 => Cell::Shown(Value::Right(prn, 3, b' ')),
         2 => Cell::Xb(I5, prn),
         _ => Cell::Xb(Q5, prn),
     }
@@ -82,7 +125,7 @@ fn x1a_phase(row: u64) -> u64
 
 // A column to a generator.
 fn reset_timing(row: u64, column: u64) -> Cell {
-    states::at_place(P, 1, LAST_CYCLE + x1a_phase(row), Field::Chip(column))
+    Cell::At(P, 1, LAST_CYCLE + x1a_phase(row), Field::Chip(column))
 }
 
 // ---- Table 3-VII
@@ -119,10 +162,10 @@ fn final_cycle(row: u64) -> CycleEnd {
 fn final_vector(row: u64, column: u64) -> Cell {
     let of = final_cycle(row);
     match column {
-        1 => Cell::Name(of.generator),
-        2 => states::at_place(P, 1, of.place, Field::Chip(of.generator)),
-        3 => states::at_place(P, 1, of.place, Field::Register(of.generator)),
-        _ => states::at_place(P, 1, of.next, Field::Register(of.generator)),
+        1 => Cell::Shown(Value::Word(Word::Generator(of.generator))),
+        2 => Cell::At(P, 1, of.place, Field::Chip(of.generator)),
+        3 => Cell::At(P, 1, of.place, Field::Register(of.generator)),
+        _ => Cell::At(P, 1, of.next, Field::Register(of.generator)),
     }
 }
 
@@ -174,15 +217,15 @@ fn selected_cell(table: Table, row: u64, column: u64) -> Cell {
     let days = (prn - 1) / 37;
     let of = prn - 37 * days;
     match column {
-        1 => Cell::Right(prn, 3, b'0'),
-        2 => Cell::Advance(of, days * 24),
+        1 => Cell::Shown(Value::Right(prn, 3, b'0')),
+        2 => Cell::Shown(Value::Advance(of, days * 24)),
         _ => selected_chips(table, of, days),
     }
 }
 
 // ---- rows
 
-fn rows(table: Table) -> u64 {
+pub fn rows(table: Table) -> u64 {
     match table {
         Table::ResetTiming => 5,
         Table::FinalVectors => 8,
@@ -192,7 +235,7 @@ fn rows(table: Table) -> u64 {
     }
 }
 
-fn columns(table: Table) -> u64 {
+pub fn columns(table: Table) -> u64 {
     match table {
         Table::L2States => 5,
         Table::ResetTiming => 4,
@@ -201,7 +244,7 @@ fn columns(table: Table) -> u64 {
     }
 }
 
-fn cell(table: Table, row: u64, column: u64) -> Cell {
+pub fn cell_of(table: Table, row: u64, column: u64) -> Cell {
     match table {
         Table::CodePhases => code_phase(row, column),
         Table::L2States => l2_state(row, column),
@@ -211,28 +254,4 @@ fn cell(table: Table, row: u64, column: u64) -> Cell {
         Table::LastChips => selected_cell(table, row, column),
         Table::XbStates => xb_state(row, column),
     }
-}
-
-// Two spaces between columns.
-fn put_row(page: &mut [u8], from: usize, table: Table, row: u64) -> usize {
-    let count = columns(table);
-    let mut at = cells::put_cell(page, from, cell(table, row, 1));
-    let mut column: u64 = 1;
-    while column < count {
-        column += 1;
-        at = text::put_fill(page, at, b' ', 0, 2);
-        at = cells::put_cell(page, at, cell(table, row, column));
-    }
-    text::put(page, at, b'\n')
-}
-
-pub fn put_rows(page: &mut [u8], from: usize, table: Table) -> usize {
-    let count = rows(table);
-    let mut at = from;
-    let mut row: u64 = 0;
-    while row < count {
-        row += 1;
-        at = put_row(page, at, table, row);
-    }
-    at
 }

@@ -1,11 +1,11 @@
--- `standards::text::put_groups` does nothing undefined and ends.
+-- `pages::text::put_groups` does nothing undefined and ends.
 -- Assumes nothing.
 use mathlib.Core.Path.{_≡_}
 use Prim.Native.Nat.{_-_, _≤_}
 use lib.ListN.{length}
 use borrow.Author.Needs.{needs}
-use Rattle.standards.proofs.text.put_groups.Statement.{statement}
-use Rattle.standards.proofs.text.put_groups.Tie as tie
+use Rattle.pages.proofs.text.put_groups.Statement.{statement}
+use Rattle.pages.proofs.text.put_groups.Tie as tie
 
 abbrev Inv-loop : tie.InvT-loop
 Inv-loop page₀ from digits at₀ i₀ page at i = (i ≤ length digits) × (length page ≡ length page₀)

@@ -1,38 +1,18 @@
-// What the calls say of a channel: as open gives it, at a place that seek brings it to, and a step on.
-use crate::cells::Cell;
-use crate::cells::P;
+// What the calls say of a channel: as open gives it, at a place that seek brings it to, and a step on. And what lies between two places.
 use engine::Opened;
 use engine::Sought;
 use engine::Stepped;
+use layout::Field;
 use machine::Channel;
 use machine::Generator;
 use machine::Mode;
-
-// Generators by number. L2 CM's is 1 and L2 CL's is 2.
-pub const X1A: u64 = 1;
-
-pub const X1B: u64 = 2;
-
-pub const X2A: u64 = 3;
-
-pub const X2B: u64 = 4;
-
-pub const XA: u64 = 1;
+use pages::CA;
+use pages::P;
+use pages::values::Value;
+use pages::values::Word;
+use places::Parted;
 
 // ---- fields
-
-pub enum Field {
-    // The leaps that seek told.
-    Leaps,
-    Epoch,
-    // Of a generator.
-    Register(u64),
-    // The number of the chip in its cycle. It counts from 1, where a phase counts from 0.
-    Chip(u64),
-    Phase(u64),
-    Cycles(u64),
-    Hold(u64),
-}
 
 fn generator(ch: Channel, number: u64) -> Generator {
     let first = ch.first;
@@ -47,32 +27,32 @@ fn generator(ch: Channel, number: u64) -> Generator {
     }
 }
 
-fn hold(mode: Mode) -> Cell {
+fn hold(mode: Mode) -> Value {
     match mode {
-        Mode::Running => Cell::Running,
-        Mode::Held(count) => Cell::Held(count as u64),
+        Mode::Running => Value::Word(Word::Running),
+        Mode::Held(count) => Value::Held(count as u64),
     }
 }
 
-fn seen(leaps: u32, ch: Channel, what: Field) -> Cell {
+fn seen(leaps: u32, ch: Channel, what: Field) -> Value {
     match what {
-        Field::Leaps => Cell::Grouped(leaps as u64),
-        Field::Epoch => Cell::Grouped(ch.epoch as u64),
+        Field::Leaps => Value::Grouped(leaps as u64),
+        Field::Epoch => Value::Grouped(ch.epoch as u64),
         Field::Register(number) => {
             let of = generator(ch, number);
-            Cell::Register(ch.signal as u64, of.register)
+            Value::Register(ch.signal as u64, of.register)
         }
         Field::Chip(number) => {
             let of = generator(ch, number);
-            Cell::Right(of.phase as u64 + 1, 4, b' ')
+            Value::Right(of.phase as u64 + 1, 4, b' ')
         }
         Field::Phase(number) => {
             let of = generator(ch, number);
-            Cell::Grouped(of.phase as u64)
+            Value::Grouped(of.phase as u64)
         }
         Field::Cycles(number) => {
             let of = generator(ch, number);
-            Cell::Grouped(of.cycles as u64)
+            Value::Grouped(of.cycles as u64)
         }
         Field::Hold(number) => {
             let of = generator(ch, number);
@@ -116,18 +96,18 @@ pub fn reach(signal: u64, prn: u64, place: u64) -> Reached {
     }
 }
 
-fn shown(reached: Reached, what: Field) -> Cell {
+fn shown(reached: Reached, what: Field) -> Value {
     match reached {
         Reached::At(leaps, ch) => seen(leaps, ch, what),
-        Reached::Refused(refusal) => Cell::Refused(refusal),
+        Reached::Refused(refusal) => Value::Refused(refusal),
     }
 }
 
-pub fn at_open(signal: u64, prn: u64, what: Field) -> Cell {
+pub fn at_open(signal: u64, prn: u64, what: Field) -> Value {
     shown(opened(signal, prn), what)
 }
 
-pub fn at_place(signal: u64, prn: u64, place: u64, what: Field) -> Cell {
+pub fn at_place(signal: u64, prn: u64, place: u64, what: Field) -> Value {
     shown(reach(signal, prn, place), what)
 }
 
@@ -153,10 +133,10 @@ fn same_generator(a: Generator, b: Generator) -> bool {
 }
 
 fn same_generators(a: Channel, b: Channel) -> bool {
-    same_generator(generator(a, 1), generator(b, 1))
-        & same_generator(generator(a, 2), generator(b, 2))
-        & same_generator(generator(a, 3), generator(b, 3))
-        & same_generator(generator(a, 4), generator(b, 4))
+    same_generator(a.first, b.first)
+        & same_generator(a.second, b.second)
+        & same_generator(a.third, b.third)
+        & same_generator(a.fourth, b.fourth)
 }
 
 // Every field of the two.
@@ -169,31 +149,48 @@ fn same_channel(a: Channel, b: Channel) -> bool {
         & same_generators(a, b)
 }
 
-fn compared(ch: Channel, first: Reached) -> Cell {
+fn compared(ch: Channel, first: Reached) -> Value {
     match first {
         Reached::At(_, other) => {
             if same_channel(ch, other) {
-                return Cell::Opened;
+                return Value::Word(Word::Opened);
             }
-            Cell::Another
+            Value::Word(Word::Another)
         }
-        Reached::Refused(refusal) => Cell::Refused(refusal),
+        Reached::Refused(refusal) => Value::Refused(refusal),
     }
 }
 
-fn stepped(ch: Channel) -> Cell {
+fn stepped(ch: Channel) -> Value {
     let answer = engine::step(ch);
     match answer {
         Stepped::Chip(_, next) => compared(next, opened(P, 1)),
-        Stepped::OutOfRange(_) => Cell::Refused(4),
+        Stepped::OutOfRange(_) => Value::Refused(4),
     }
 }
 
 // Whether P's step from there gives the opened channel.
-pub fn step_from(place: u64) -> Cell {
+pub fn step_from(place: u64) -> Value {
     let reached = reach(P, 1, place);
     match reached {
         Reached::At(_, ch) => stepped(ch),
-        Reached::Refused(refusal) => Cell::Refused(refusal),
+        Reached::Refused(refusal) => Value::Refused(refusal),
+    }
+}
+
+// ---- a gap
+
+// Between two places of C/A.
+pub fn ca_gap(a: u64, b: u64) -> Value {
+    let parted = places::gap(CA, a, b);
+    match parted {
+        Parted::By(chips) => {
+            if chips < 0 {
+                return Value::Negative(places::size(chips));
+            }
+            Value::Grouped(places::size(chips))
+        }
+        Parted::NoSignal => Value::Refused(1),
+        Parted::NoPlace => Value::Refused(3),
     }
 }

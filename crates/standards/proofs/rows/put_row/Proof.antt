@@ -1,11 +1,11 @@
--- `standards::tables::put_row` does nothing undefined and ends.
+-- `standards::rows::put_row` does nothing undefined and ends.
 -- Assumes nothing.
 use mathlib.Core.Path.{_≡_}
 use Prim.Native.Nat.{_-_}
 use lib.ListN.{length}
 use borrow.Author.Needs.{needs}
-use Rattle.standards.proofs.tables.put_row.Statement.{statement}
-use Rattle.standards.proofs.tables.put_row.Tie as tie
+use Rattle.standards.proofs.rows.put_row.Statement.{statement}
+use Rattle.standards.proofs.rows.put_row.Tie as tie
 
 abbrev Inv-loop : tie.InvT-loop
 Inv-loop page₀ from table row count at₀ column₀ page at column = length page ≡ length page₀
@@ -16,8 +16,8 @@ abbrev μ-loop : tie.MeasureT-loop
 columns-requires : tie.Need-columns-requires Inv-loop μ-loop
 columns-requires c κs = search needs
 
-cell-requires : tie.Need-cell-requires Inv-loop μ-loop
-cell-requires c κs = search needs
+cell-of-requires : tie.Need-cell-of-requires Inv-loop μ-loop
+cell-of-requires c κs = search needs
 
 put-cell-requires : tie.Need-put-cell-requires Inv-loop μ-loop
 put-cell-requires c κs = search needs
@@ -31,8 +31,8 @@ add-column c = search needs
 put-fill-requires : tie.Need-put-fill-requires Inv-loop μ-loop
 put-fill-requires c κs = search needs
 
-cell-requires-2 : tie.Need-cell-requires-2 Inv-loop μ-loop
-cell-requires-2 c κs = search needs
+cell-of-requires-2 : tie.Need-cell-of-requires-2 Inv-loop μ-loop
+cell-of-requires-2 c κs = search needs
 
 put-cell-requires-2 : tie.Need-put-cell-requires-2 Inv-loop μ-loop
 put-cell-requires-2 c κs = search needs
@@ -59,12 +59,12 @@ put-row-spec =
     Inv-loop
     μ-loop
     columns-requires
-    cell-requires
+    cell-of-requires
     put-cell-requires
     loop-holds
     add-column
     put-fill-requires
-    cell-requires-2
+    cell-of-requires-2
     put-cell-requires-2
     loop-less
     loop-again

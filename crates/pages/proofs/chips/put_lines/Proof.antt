@@ -1,11 +1,11 @@
--- `standards::chips::put_lines` does nothing undefined and ends.
+-- `pages::chips::put_lines` does nothing undefined and ends.
 -- Assumes nothing.
 use mathlib.Core.Path.{_≡_}
 use Prim.Native.Nat.{_-_, _≤_}
 use lib.ListN.{length}
 use borrow.Author.Needs.{needs}
-use Rattle.standards.proofs.chips.put_lines.Statement.{statement}
-use Rattle.standards.proofs.chips.put_lines.Tie as tie
+use Rattle.pages.proofs.chips.put_lines.Statement.{statement}
+use Rattle.pages.proofs.chips.put_lines.Tie as tie
 
 abbrev Inv-loop : tie.InvT-loop
 Inv-loop page₀ start chips at₀ from₀ page at from = (from ≤ length chips) × (length page ≡ length page₀)

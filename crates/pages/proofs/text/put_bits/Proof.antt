@@ -1,11 +1,11 @@
--- `standards::text::put_bits` does nothing undefined and ends.
+-- `pages::text::put_bits` does nothing undefined and ends.
 -- Assumes nothing.
 use mathlib.Core.Path.{_≡_}
 use Prim.Native.Nat.{_-_, _≤_}
 use lib.ListN.{length}
 use borrow.Author.Needs.{needs}
-use Rattle.standards.proofs.text.put_bits.Statement.{statement}
-use Rattle.standards.proofs.text.put_bits.Tie as tie
+use Rattle.pages.proofs.text.put_bits.Statement.{statement}
+use Rattle.pages.proofs.text.put_bits.Tie as tie
 
 abbrev Inv-loop : tie.InvT-loop
 Inv-loop page₀ from bits group at₀ digit₀ i₀ page at digit i = (i ≤ length bits) × (length page ≡ length page₀)
