@@ -26,23 +26,22 @@ pub added-first : (row : List ℕ) (r : ℕ) → added row 0 r 0 ≡ combine row
 unfolding added
 added-first row r = refl
 
-added-turn : (row : List ℕ) (j rest sum d : ℕ) → j < length row → rest % 2 ≡ d
-    → added row (j + 1) (rest / 2) (bitXor sum (d * getD row j 0)) ≡ added row j rest sum
+pub added-turn : (row : List ℕ) (j rest sum : ℕ) → j < length row
+    → added row (j + 1) (rest / 2) (bitXor sum (rest % 2 * getD row j 0)) ≡ added row j rest sum
 unfolding added combine
-added-turn row j rest sum d h e =
-    ap (λ (k : ℕ). bitXor (bitXor sum (d * getD row j 0)) (combine (drop k row) (rest / 2))) (add-one j)
-    ∙ xor-assoc sum (d * getD row j 0) (combine (drop (suc j) row) (rest / 2))
-    ∙ ap (λ (z : ℕ). bitXor sum (bitXor (z * getD row j 0) (combine (drop (suc j) row) (rest / 2)))) (sym e)
+added-turn row j rest sum h =
+    ap (λ (k : ℕ). bitXor (bitXor sum (rest % 2 * getD row j 0)) (combine (drop k row) (rest / 2))) (add-one j)
+    ∙ xor-assoc sum (rest % 2 * getD row j 0) (combine (drop (suc j) row) (rest / 2))
     ∙ ap (λ (l : List ℕ). bitXor sum (combine l rest)) (sym (drop-cons row j 0 h))
 
-pub added-one : (row : List ℕ) (j rest sum : ℕ) → j < length row → rest % 2 ≡ 1
-    → added row (j + 1) (rest / 2) (bitXor sum (getD row j 0)) ≡ added row j rest sum
-added-one row j rest sum h e = ap (λ (z : ℕ). added row (j + 1) (rest / 2) (bitXor sum z)) (sym (one-mul (getD row j 0))) ∙ added-turn row j rest sum 1 h e
-
-pub added-none : (row : List ℕ) (j rest sum : ℕ) → j < length row → (rest % 2 ≡ 1 → ⊥) → added row (j + 1) (rest / 2) sum ≡ added row j rest sum
-added-none row j rest sum h n =
-    ap (added row (j + 1) (rest / 2)) (sym (ap (bitXor sum) (zero-mul (getD row j 0)) ∙ xor-zero-r sum))
-    ∙ added-turn row j rest sum 0 h (omega (arith, low rest))
+-- a digit of the register times a number is no more than the number
+pub by-digit : (r n m : ℕ) → n < m → r % 2 * n < m
+by-digit r n m h = by (r % 2) (low r)
+  where
+    by : (d : ℕ) → d < 2 → d * n < m
+    by zero l = rw (zero-mul n) (omega (arith, h))
+    by (suc zero) l = rw (one-mul n) h
+    by (suc (suc d)) l = absurd (omega (arith, l))
 
 pub added-last : (row : List ℕ) (rest sum : ℕ) → added row (length row) rest sum ≡ sum
 unfolding added combine

@@ -11,7 +11,8 @@ pub struct Leapt {
     pub count: u32,
 }
 
-// The numbers of a row that stand where the register has a 1, added bit by bit modulo 2.
+// The numbers of a row that stand where the register has a 1, added bit by bit modulo 2. Each is multiplied by the register's digit: a branch on it would be
+// guessed wrong every other time.
 fn combined(row: &[u32], register: u32) -> u32
     ensures { λ r. ⌜ r ≡ combine (now (row .entry)) register ⌝ }
 {
@@ -19,10 +20,7 @@ fn combined(row: &[u32], register: u32) -> u32
     let mut rest = register;
     let mut j: usize = 0;
     while j < row.len() {
-        let number = row[j];
-        if rest % 2 == 1 {
-            sum = sum ^ number;
-        }
+        sum = sum ^ (rest % 2) * row[j];
         rest = rest / 2;
         j += 1;
     }

@@ -34,7 +34,7 @@ pub fn write_ca(ch: Channel, stages: Stages, count: usize, out: &mut [u8]) -> Ch
 
 // ---- P
 
-fn write_p(ch: Channel, count: usize, out: &mut [u8]) -> Channel
+pub fn write_p(ch: Channel, count: usize, out: &mut [u8]) -> Channel
     requires { ⌜ Of signalP ch ⌝ }
     requires { ⌜ count ≤ length (now out) ⌝ }
     ensures { λ r. ⌜ (r ≡ advance count ch) × (now (out .exit) ≡ chips count ch ++ drop count (now (out .entry))) ⌝ }
@@ -51,7 +51,7 @@ fn write_p(ch: Channel, count: usize, out: &mut [u8]) -> Channel
 
 // ---- L2 CM and L2 CL, from their starts
 
-fn write_cm(ch: Channel, start: u32, count: usize, out: &mut [u8]) -> Channel
+pub fn write_cm(ch: Channel, start: u32, count: usize, out: &mut [u8]) -> Channel
     requires { ⌜ Of (λ prn. fromCM start) ch ⌝ }
     requires { ⌜ count ≤ length (now out) ⌝ }
     ensures { λ r. ⌜ (r ≡ advance count ch) × (now (out .exit) ≡ chips count ch ++ drop count (now (out .entry))) ⌝ }
@@ -66,7 +66,7 @@ fn write_cm(ch: Channel, start: u32, count: usize, out: &mut [u8]) -> Channel
     here
 }
 
-fn write_cl(ch: Channel, start: u32, count: usize, out: &mut [u8]) -> Channel
+pub fn write_cl(ch: Channel, start: u32, count: usize, out: &mut [u8]) -> Channel
     requires { ⌜ Of (λ prn. fromCL start) ch ⌝ }
     requires { ⌜ count ≤ length (now out) ⌝ }
     ensures { λ r. ⌜ (r ≡ advance count ch) × (now (out .exit) ≡ chips count ch ++ drop count (now (out .entry))) ⌝ }
@@ -83,7 +83,7 @@ fn write_cl(ch: Channel, start: u32, count: usize, out: &mut [u8]) -> Channel
 
 // ---- I5 and Q5, from XB's start
 
-fn write_l5(ch: Channel, start: u32, count: usize, out: &mut [u8]) -> Channel
+pub fn write_l5(ch: Channel, start: u32, count: usize, out: &mut [u8]) -> Channel
     requires { ⌜ Of (λ prn. fromL5 start) ch ⌝ }
     requires { ⌜ count ≤ length (now out) ⌝ }
     ensures { λ r. ⌜ (r ≡ advance count ch) × (now (out .exit) ≡ chips count ch ++ drop count (now (out .entry))) ⌝ }

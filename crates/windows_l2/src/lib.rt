@@ -1,5 +1,5 @@
-// Windows of L2 CM and L2 CL, twenty-four chips at a time as long as the generator is not at the end of its cycle, and single steps there. Each of
-// the two has one generator, and the generators that it lacks stay as they are.
+// Windows of L2 CM and L2 CL, twenty-four chips at a time as long as the generator is not at the end of its cycle. There, and for the window's last chips,
+// single steps. Each of the two has one generator, and the generators that it lacks stay as they are.
 ghost use mathlib.Core.Path.{_≡_};
 ghost use mathlib.Core.Bool.{true, false};
 ghost use mathlib.Core.List.{_++_};
@@ -68,9 +68,9 @@ pub fn write_cm(ch: Channel, start: u32, count: usize, spread: &[u64], out: &mut
             here = plain_runs::move_by(here, chips, first, second);
             written += chips;
         } else {
-            out[written] = steps::chip_cm(here);
-            here = steps::step_cm(here, start);
-            written += 1;
+            let few = stretches::least(count - written, 24);
+            here = stepped::write_cm(here, start, few, &mut out[written..]);
+            written += few;
         }
     }
     here
@@ -95,9 +95,9 @@ pub fn write_cl(ch: Channel, start: u32, count: usize, spread: &[u64], out: &mut
             here = plain_runs::move_by(here, chips, first, second);
             written += chips;
         } else {
-            out[written] = steps::chip_cl(here);
-            here = steps::step_cl(here, start);
-            written += 1;
+            let few = stretches::least(count - written, 24);
+            here = stepped::write_cl(here, start, few, &mut out[written..]);
+            written += few;
         }
     }
     here

@@ -183,6 +183,9 @@ fn run_by_tables(ch: Channel, start: u32, most: usize, xa: &[u64], xb: &[u64], f
 
 // ---- the window
 
+// The single steps between two runs: to the event, and past it.
+const AT_AN_EVENT: usize = 2;
+
 // Runs, and single steps between them, from XB's start and its advance.
 fn write_by_runs(
     ch: Channel,
@@ -209,9 +212,9 @@ fn write_by_runs(
             here = go_along(here, start, n, &xa, &xb, from, spread, &mut out[written..]);
             written += n;
         } else {
-            out[written] = steps::chip_l5(here);
-            here = steps::step_l5(here, start);
-            written += 1;
+            let few = stretches::least(count - written, AT_AN_EVENT);
+            here = stepped::write_l5(here, start, few, &mut out[written..]);
+            written += few;
         }
     }
     here

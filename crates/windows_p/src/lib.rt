@@ -186,6 +186,9 @@ fn run_by_tables(
 
 // ---- the window
 
+// The single steps between two runs: to the event, and past it.
+const AT_AN_EVENT: usize = 2;
+
 // Runs, and single steps between them.
 fn write_by_runs(
     ch: Channel,
@@ -212,9 +215,9 @@ fn write_by_runs(
             here = go_along(here, n, x1a, x1b, x2a, x2b, spread, &mut out[written..]);
             written += n;
         } else {
-            out[written] = steps::chip_p(here);
-            here = steps::step_p(here);
-            written += 1;
+            let few = stretches::least(count - written, AT_AN_EVENT);
+            here = stepped::write_p(here, few, &mut out[written..]);
+            written += few;
         }
     }
     here

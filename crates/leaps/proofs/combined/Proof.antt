@@ -1,13 +1,12 @@
 -- `leaps::combined` meets its contract. The loop's invariant: what was added so far and what the numbers from j on still add make what the row gives.
 -- Assumes nothing.
 use mathlib.Core.Path.{_≡_, sym, ap, _∙_}
-use mathlib.Core.Logic.{⊎-elim}
 use Prim.Native.Nat.{ℕ, _≤_, _-_}
 use native.Mathlib.Omega.{arith}
 use lib.ListN.{length}
 use borrow.Author.Needs.{needs}
 use Rattle.registers.specs.Row.{combine}
-use Rattle.leaps.proofs.Turns.{added, added-first, added-one, added-none, added-last}
+use Rattle.leaps.proofs.Turns.{added, added-first, added-turn, by-digit, added-last}
 use Rattle.leaps.proofs.combined.Statement.{statement}
 use Rattle.leaps.proofs.combined.Tie as tie
 
@@ -20,11 +19,16 @@ abbrev μ-loop : tie.MeasureT-loop
 loop-holds : tie.Need-loop-holds Inv-loop μ-loop
 loop-holds c = (omega arith, added-first _ _)
 
-mul-number : tie.Need-mul-number Inv-loop μ-loop
-mul-number c = search needs
+mul-sum : tie.Need-mul-sum Inv-loop μ-loop
+mul-sum c = search needs
 
-shared-slice-read-number : tie.Need-shared-slice-read-number Inv-loop μ-loop
-shared-slice-read-number c = omega arith
+shared-slice-read-sum : tie.Need-shared-slice-read-sum Inv-loop μ-loop
+shared-slice-read-sum c = omega arith
+
+mul-sum-2 : tie.Need-mul-sum-2 Inv-loop μ-loop
+mul-sum-2 c =
+    let l = c .before .before .loop in
+    record { fits = by-digit (l .rest) _ _ (c .shared-slice-known .given (l .j) .fits) }
 
 add-j : tie.Need-add-j Inv-loop μ-loop
 add-j c = omega arith
@@ -34,11 +38,8 @@ loop-less c = omega arith
 
 loop-again : tie.Need-loop-again Inv-loop μ-loop
 loop-again c =
-    let l = c .before .before .before .loop in
-    ⊎-elim
-    (λ w. (omega arith, ap (added _ _ _) (w .1) ∙ added-one _ (l .j) (l .rest) (l .sum) (omega arith) (w .0 .taken) ∙ l .inv .1))
-    (λ w. (omega arith, ap (added _ _ _) (w .1) ∙ added-none _ (l .j) (l .rest) (l .sum) (omega arith) (w .0 .left) ∙ l .inv .1))
-    (c .if1 .came)
+    let l = c .before .before .loop in
+    (omega arith, added-turn _ (l .j) (l .rest) (l .sum) (omega arith) ∙ l .inv .1)
 
 returns : tie.Need-returns Inv-loop μ-loop
 returns c =
@@ -50,4 +51,4 @@ returns c =
 pub combined-spec : {M : Type 1} → statement M
 combined-spec =
     tie.close
-    (tie.spec Inv-loop μ-loop loop-holds mul-number shared-slice-read-number add-j loop-less loop-again returns)
+    (tie.spec Inv-loop μ-loop loop-holds mul-sum shared-slice-read-sum mul-sum-2 add-j loop-less loop-again returns)

@@ -2,10 +2,12 @@
 -- Assumes nothing.
 use Prim.Native.Nat.{_-_}
 use native.Mathlib.Omega.{arith}
+use lib.Dec.{lit<}
 use lib.ListN.{length-take, length-drop}
 use borrow.Author.Needs.{needs}
 use Rattle.machine.specs.Signals.{fromCL}
-use Rattle.stepped.proofs.ChipsSoFar.{SoFar, begun, one-more, ended}
+use Rattle.stretches.proofs.Lesser.{least-some}
+use Rattle.stepped.proofs.ChipsSoFar.{SoFar, begun, part-more, ended}
 use Rattle.plain_runs.proofs.Runs.{in-cycle}
 use Rattle.windows_l2.proofs.RunsOfTwentyFours.{cl-more}
 use Rattle.windows_l2.proofs.write_cl.Statement.{statement}
@@ -75,25 +77,40 @@ loop-again c =
     let n = (c .before .before .before .before .before .before .before .before .twenty-fours-before) .ensures in
     cl-more _ _ _ _ _ _ (l .here) _ _ (l .written) _ (l .inv) n (run .0) (run .1) ((c .move-by) .ensures)
 
-chip-cl-requires : tie.Need-chip-cl-requires Inv-loop μ-loop
-chip-cl-requires c κs = search needs
+sub-least : tie.Need-sub-least Inv-loop μ-loop
+sub-least c = omega arith
 
-slice-write-out : tie.Need-slice-write-out Inv-loop μ-loop
-slice-write-out c = omega arith
+least-requires : tie.Need-least-requires Inv-loop μ-loop
+least-requires c κs = search needs
 
-step-cl-requires : tie.Need-step-cl-requires Inv-loop μ-loop
-step-cl-requires c κs = search needs
+sub-write-cl : tie.Need-sub-write-cl Inv-loop μ-loop
+sub-write-cl c = omega arith
+
+part-write-cl-start : tie.Need-part-write-cl-start Inv-loop μ-loop
+part-write-cl-start c = search needs
+
+part-write-cl-end : tie.Need-part-write-cl-end Inv-loop μ-loop
+part-write-cl-end c = search needs
+
+write-cl-requires : tie.Need-write-cl-requires Inv-loop μ-loop
+write-cl-requires c κs =
+    let l = c .before .before .before .before .before .loop in
+    (l .inv .is, simp (length-take, length-drop) (omega (arith, c .before .least .ensures .0)))
 
 add-written-2 : tie.Need-add-written-2 Inv-loop μ-loop
-add-written-2 c = omega arith
+add-written-2 c =
+    omega (arith, c .before .before .before .before .least .ensures .0, c .before .before .before .before .before .before .before .before .before .before .before .before .fits .count, c .before .before .before .before .before .before .before .before .loop .inv .bound)
 
 loop-less-2 : tie.Need-loop-less-2 Inv-loop μ-loop
-loop-less-2 c = omega arith
+loop-less-2 c =
+    let few = c .before .before .before .before .least in
+    omega (arith, few .ensures .0, least-some _ 24 (few .result) (omega arith) (lit< tt) (few .ensures .1 .1))
 
 loop-again-2 : tie.Need-loop-again-2 Inv-loop μ-loop
 loop-again-2 c =
-    let l = c .before .before .before .before .before .loop in
-    one-more _ _ _ _ _ _ _ _ _ (l .inv) (omega arith) ((c .before .chip-cl) .ensures) ((c .step-cl) .ensures)
+    let l = c .before .before .before .before .before .before .before .before .loop in
+    let stepped = c .before .before .write-cl .ensures in
+    part-more _ _ _ _ (l .out) _ (l .here) _ (l .written) _ (l .inv) (omega (arith, c .before .before .before .before .least .ensures .0)) (stepped .1) (stepped .0)
 
 same-length : tie.Need-same-length Inv-loop μ-loop
 same-length c = search needs
@@ -122,9 +139,12 @@ write-cl-spec =
     add-written
     loop-less
     loop-again
-    chip-cl-requires
-    slice-write-out
-    step-cl-requires
+    sub-least
+    least-requires
+    sub-write-cl
+    part-write-cl-start
+    part-write-cl-end
+    write-cl-requires
     add-written-2
     loop-less-2
     loop-again-2

@@ -2,10 +2,12 @@
 -- Assumes nothing.
 use Prim.Native.Nat.{_-_}
 use native.Mathlib.Omega.{arith}
+use lib.Dec.{lit<}
 use lib.ListN.{length-take, length-drop}
 use borrow.Author.Needs.{needs}
 use Rattle.machine.specs.Signals.{fromCM}
-use Rattle.stepped.proofs.ChipsSoFar.{SoFar, begun, one-more, ended}
+use Rattle.stretches.proofs.Lesser.{least-some}
+use Rattle.stepped.proofs.ChipsSoFar.{SoFar, begun, part-more, ended}
 use Rattle.plain_runs.proofs.Runs.{in-cycle}
 use Rattle.windows_l2.proofs.RunsOfTwentyFours.{cm-more}
 use Rattle.windows_l2.proofs.write_cm.Statement.{statement}
@@ -75,25 +77,40 @@ loop-again c =
     let n = (c .before .before .before .before .before .before .before .before .twenty-fours-before) .ensures in
     cm-more _ _ _ _ _ _ (l .here) _ _ (l .written) _ (l .inv) n (run .0) (run .1) ((c .move-by) .ensures)
 
-chip-cm-requires : tie.Need-chip-cm-requires Inv-loop μ-loop
-chip-cm-requires c κs = search needs
+sub-least : tie.Need-sub-least Inv-loop μ-loop
+sub-least c = omega arith
 
-slice-write-out : tie.Need-slice-write-out Inv-loop μ-loop
-slice-write-out c = omega arith
+least-requires : tie.Need-least-requires Inv-loop μ-loop
+least-requires c κs = search needs
 
-step-cm-requires : tie.Need-step-cm-requires Inv-loop μ-loop
-step-cm-requires c κs = search needs
+sub-write-cm : tie.Need-sub-write-cm Inv-loop μ-loop
+sub-write-cm c = omega arith
+
+part-write-cm-start : tie.Need-part-write-cm-start Inv-loop μ-loop
+part-write-cm-start c = search needs
+
+part-write-cm-end : tie.Need-part-write-cm-end Inv-loop μ-loop
+part-write-cm-end c = search needs
+
+write-cm-requires : tie.Need-write-cm-requires Inv-loop μ-loop
+write-cm-requires c κs =
+    let l = c .before .before .before .before .before .loop in
+    (l .inv .is, simp (length-take, length-drop) (omega (arith, c .before .least .ensures .0)))
 
 add-written-2 : tie.Need-add-written-2 Inv-loop μ-loop
-add-written-2 c = omega arith
+add-written-2 c =
+    omega (arith, c .before .before .before .before .least .ensures .0, c .before .before .before .before .before .before .before .before .before .before .before .before .fits .count, c .before .before .before .before .before .before .before .before .loop .inv .bound)
 
 loop-less-2 : tie.Need-loop-less-2 Inv-loop μ-loop
-loop-less-2 c = omega arith
+loop-less-2 c =
+    let few = c .before .before .before .before .least in
+    omega (arith, few .ensures .0, least-some _ 24 (few .result) (omega arith) (lit< tt) (few .ensures .1 .1))
 
 loop-again-2 : tie.Need-loop-again-2 Inv-loop μ-loop
 loop-again-2 c =
-    let l = c .before .before .before .before .before .loop in
-    one-more _ _ _ _ _ _ _ _ _ (l .inv) (omega arith) ((c .before .chip-cm) .ensures) ((c .step-cm) .ensures)
+    let l = c .before .before .before .before .before .before .before .before .loop in
+    let stepped = c .before .before .write-cm .ensures in
+    part-more _ _ _ _ (l .out) _ (l .here) _ (l .written) _ (l .inv) (omega (arith, c .before .before .before .before .least .ensures .0)) (stepped .1) (stepped .0)
 
 same-length : tie.Need-same-length Inv-loop μ-loop
 same-length c = search needs
@@ -122,9 +139,12 @@ write-cm-spec =
     add-written
     loop-less
     loop-again
-    chip-cm-requires
-    slice-write-out
-    step-cm-requires
+    sub-least
+    least-requires
+    sub-write-cm
+    part-write-cm-start
+    part-write-cm-end
+    write-cm-requires
     add-written-2
     loop-less-2
     loop-again-2

@@ -2,10 +2,12 @@
 -- Assumes nothing.
 use Prim.Native.Nat.{_-_}
 use native.Mathlib.Omega.{arith}
+use lib.Dec.{lit<}
 use lib.ListN.{length-take, length-drop}
 use borrow.Author.Needs.{needs}
 use Rattle.machine.specs.Signals.{fromL5}
-use Rattle.stepped.proofs.ChipsSoFar.{SoFar, begun, one-more, part-more, ended}
+use Rattle.stretches.proofs.Lesser.{least-some}
+use Rattle.stepped.proofs.ChipsSoFar.{SoFar, begun, part-more, ended}
 use Rattle.windows_l5.specs.Runs.{Tables}
 use Rattle.windows_l5.proofs.write_by_runs.Statement.{statement}
 use Rattle.windows_l5.proofs.write_by_runs.Tie as tie
@@ -78,25 +80,40 @@ loop-again c =
     let run = (c .before .before .go-along) .ensures in
     part-more _ _ _ _ (l .out) _ (l .here) _ (l .written) _ (l .inv) (omega (arith, (c .before .before .before .before .before .before .before .run-by-tables) .ensures .0, l .inv .bound)) (run .1) (run .0)
 
-chip-l5-requires : tie.Need-chip-l5-requires Inv-loop μ-loop
-chip-l5-requires c κs = search needs
+sub-least : tie.Need-sub-least Inv-loop μ-loop
+sub-least c = omega arith
 
-slice-write-out : tie.Need-slice-write-out Inv-loop μ-loop
-slice-write-out c = omega arith
+least-requires : tie.Need-least-requires Inv-loop μ-loop
+least-requires c κs = search needs
 
-step-l5-requires : tie.Need-step-l5-requires Inv-loop μ-loop
-step-l5-requires c κs = search needs
+sub-write-l5 : tie.Need-sub-write-l5 Inv-loop μ-loop
+sub-write-l5 c = omega arith
+
+part-write-l5-start : tie.Need-part-write-l5-start Inv-loop μ-loop
+part-write-l5-start c = search needs
+
+part-write-l5-end : tie.Need-part-write-l5-end Inv-loop μ-loop
+part-write-l5-end c = search needs
+
+write-l5-requires : tie.Need-write-l5-requires Inv-loop μ-loop
+write-l5-requires c κs =
+    let l = c .before .before .before .before .before .before .before .loop in
+    (l .inv .is, simp (length-take, length-drop) (omega (arith, c .before .least .ensures .0, l .inv .room, l .inv .same)))
 
 add-written-2 : tie.Need-add-written-2 Inv-loop μ-loop
 add-written-2 c =
-    omega (arith, (c .before .before .before .before .before .before .before .before .before .before .before .before .pre) .1 .1 .1 .1, (c .before .before .before .before .before .before .before .loop) .inv .bound)
+    omega (arith, c .before .before .before .before .least .ensures .0, c .before .before .before .before .before .before .before .before .before .before .before .before .before .before .before .pre .1 .1 .1 .1, c .before .before .before .before .before .before .before .before .before .before .loop .inv .bound)
 
 loop-less-2 : tie.Need-loop-less-2 Inv-loop μ-loop
-loop-less-2 c = omega arith
+loop-less-2 c =
+    let few = c .before .before .before .before .least in
+    omega (arith, few .ensures .0, least-some _ 2 (few .result) (omega arith) (lit< tt) (few .ensures .1 .1))
 
 loop-again-2 : tie.Need-loop-again-2 Inv-loop μ-loop
 loop-again-2 c =
-    one-more _ _ _ _ _ _ _ _ _ ((c .before .before .before .before .before .before .before .loop) .inv) (omega arith) ((c .before .chip-l5) .ensures) ((c .step-l5) .ensures)
+    let l = c .before .before .before .before .before .before .before .before .before .before .loop in
+    let stepped = c .before .before .write-l5 .ensures in
+    part-more _ _ _ _ (l .out) _ (l .here) _ (l .written) _ (l .inv) (omega (arith, c .before .before .before .before .least .ensures .0)) (stepped .1) (stepped .0)
 
 same-length : tie.Need-same-length Inv-loop μ-loop
 same-length c = search needs
@@ -127,9 +144,12 @@ write-by-runs-spec =
     add-written
     loop-less
     loop-again
-    chip-l5-requires
-    slice-write-out
-    step-l5-requires
+    sub-least
+    least-requires
+    sub-write-l5
+    part-write-l5-start
+    part-write-l5-end
+    write-l5-requires
     add-written-2
     loop-less-2
     loop-again-2

@@ -2,10 +2,12 @@
 -- Assumes nothing.
 use Prim.Native.Nat.{_-_}
 use native.Mathlib.Omega.{arith}
+use lib.Dec.{lit<}
 use lib.ListN.{length-take, length-drop}
 use borrow.Author.Needs.{needs}
 use Rattle.machine.specs.Signals.{signalP}
-use Rattle.stepped.proofs.ChipsSoFar.{SoFar, begun, one-more, part-more, ended}
+use Rattle.stretches.proofs.Lesser.{least-some}
+use Rattle.stepped.proofs.ChipsSoFar.{SoFar, begun, part-more, ended}
 use Rattle.windows_p.proofs.write_by_runs.Statement.{statement}
 use Rattle.windows_p.proofs.write_by_runs.Tie as tie
 
@@ -56,25 +58,40 @@ loop-again c =
     let run = (c .before .before .go-along) .ensures in
     part-more _ _ _ _ (l .out) _ (l .here) _ (l .written) _ (l .inv) (omega arith) (run .1) (run .0)
 
-chip-p-requires : tie.Need-chip-p-requires Inv-loop μ-loop
-chip-p-requires c κs = search needs
+sub-least : tie.Need-sub-least Inv-loop μ-loop
+sub-least c = omega arith
 
-slice-write-out : tie.Need-slice-write-out Inv-loop μ-loop
-slice-write-out c = omega arith
+least-requires : tie.Need-least-requires Inv-loop μ-loop
+least-requires c κs = search needs
 
-step-p-requires : tie.Need-step-p-requires Inv-loop μ-loop
-step-p-requires c κs = search needs
+sub-write-p : tie.Need-sub-write-p Inv-loop μ-loop
+sub-write-p c = omega arith
+
+part-write-p-start : tie.Need-part-write-p-start Inv-loop μ-loop
+part-write-p-start c = search needs
+
+part-write-p-end : tie.Need-part-write-p-end Inv-loop μ-loop
+part-write-p-end c = search needs
+
+write-p-requires : tie.Need-write-p-requires Inv-loop μ-loop
+write-p-requires c κs =
+    let l = c .before .before .before .before .before .loop in
+    (l .inv .is, simp (length-take, length-drop) (omega (arith, c .before .least .ensures .0)))
 
 add-written-2 : tie.Need-add-written-2 Inv-loop μ-loop
 add-written-2 c =
-    omega (arith, (c .before .before .before .before .before .before .before .before .before .before .before .before .pre) .1 .1 .1 .1, (c .before .before .before .before .before .loop) .inv .bound)
+    omega (arith, c .before .before .before .before .least .ensures .0, c .before .before .before .before .before .before .before .before .before .before .before .before .before .before .before .pre .1 .1 .1 .1, c .before .before .before .before .before .before .before .before .loop .inv .bound)
 
 loop-less-2 : tie.Need-loop-less-2 Inv-loop μ-loop
-loop-less-2 c = omega arith
+loop-less-2 c =
+    let few = c .before .before .before .before .least in
+    omega (arith, few .ensures .0, least-some _ 2 (few .result) (omega arith) (lit< tt) (few .ensures .1 .1))
 
 loop-again-2 : tie.Need-loop-again-2 Inv-loop μ-loop
 loop-again-2 c =
-    one-more _ _ _ _ _ _ _ _ _ ((c .before .before .before .before .before .loop) .inv) (omega arith) ((c .before .chip-p) .ensures) ((c .step-p) .ensures)
+    let l = c .before .before .before .before .before .before .before .before .loop in
+    let stepped = c .before .before .write-p .ensures in
+    part-more _ _ _ _ (l .out) _ (l .here) _ (l .written) _ (l .inv) (omega (arith, c .before .before .before .before .least .ensures .0)) (stepped .1) (stepped .0)
 
 same-length : tie.Need-same-length Inv-loop μ-loop
 same-length c = search needs
@@ -99,9 +116,12 @@ write-by-runs-spec =
     add-written
     loop-less
     loop-again
-    chip-p-requires
-    slice-write-out
-    step-p-requires
+    sub-least
+    least-requires
+    sub-write-p
+    part-write-p-start
+    part-write-p-end
+    write-p-requires
     add-written-2
     loop-less-2
     loop-again-2
