@@ -1,6 +1,6 @@
 // Windows step by step: the chips of so many steps of a channel in range, written to the front of a slice, and the channel so many steps on. Each
 // family of signals has a loop of its own, so that signal, PRN and starts are looked at once a window and not once a chip. Short windows are written
-// so, and those of C/A channels whose registers are not the ones of their phases.
+// so, the chips between two runs, and windows of C/A channels whose registers are not the ones of their phases.
 ghost use mathlib.Core.Path.{_≡_};
 ghost use mathlib.Core.List.{_++_};
 ghost use Prim.Native.Nat.{_≤_};
