@@ -21,7 +21,7 @@ pub const ROOM: usize = 66_048;
 // ---- the words of an answer
 
 // Chips, a digit for each, or `-` for none, and a newline, from `at` on.
-pub fn put_chips(chips: &[u8], out: &mut [u8], at: usize) -> usize
+fn put_chips(chips: &[u8], out: &mut [u8], at: usize) -> usize
     requires { ⌜ at + length (now chips) + 2 ≤ length (now out) ⌝ }
     ensures { λ r. ⌜ Puts (chipsWord (now (chips .entry))) at (now (out .entry)) (now (out .exit)) r ⌝ }
 {

@@ -28,7 +28,7 @@ pub data Call : Type 0 where
   -- count, the bytes of the buffer, at
   window : ℕ → List ℕ → ℕ → Call
 
--- what a call on a channel answers: the definitions that the promises of `engine` cite
+-- what a call on a channel answers: the definitions that the promises of the calls cite
 abbrev pub replyTo : Channel → Call → Reply
 replyTo ch (seek place) = seekReply ch place
 replyTo ch step = stepReply ch

@@ -10,6 +10,12 @@ ghost use Rattle.stretches.specs.Stretches.{stretch, Within, wordOf, all
 use machine::Generator;
 use machine::Mode;
 
+// A run from the tables that is shorter than this is not worth while: its chips are stepped.
+pub const SHORT_RUN: usize = 8;
+
+// The single steps between two runs: to the event, and past it.
+pub const AT_AN_EVENT: usize = 2;
+
 // The lesser of two.
 pub fn least(a: usize, b: usize) -> usize
     ensures { λ n. ⌜ (n ≤ a) × ((n ≤ b) × (n < a → n ≡ b)) ⌝ }

@@ -159,9 +159,6 @@ fn fitting(ch: Channel, start: u32, xa: &[u64], xb: &[u64], from: usize) -> bool
     first & second
 }
 
-// A run that is shorter than this is stepped.
-const SHORT_RUN: usize = 8;
-
 // The steps of the run that is taken from the tables here: none where it is short, or a register is not the one of its phase.
 fn run_by_tables(ch: Channel, start: u32, most: usize, xa: &[u64], xb: &[u64], from: usize) -> usize
     requires { ⌜ RangedAs (fromL5 start) ch ⌝ }
@@ -171,7 +168,7 @@ fn run_by_tables(ch: Channel, start: u32, most: usize, xa: &[u64], xb: &[u64], f
     ensures { λ n. ⌜ (n ≤ most) × ((0 < n → Run start n ch) × (0 < n → Fitting start ch)) ⌝ }
 {
     let n = run_of(ch, start, most);
-    if n < SHORT_RUN {
+    if n < stretches::SHORT_RUN {
         return 0;
     }
     if fitting(ch, start, xa, xb, from) {
@@ -182,9 +179,6 @@ fn run_by_tables(ch: Channel, start: u32, most: usize, xa: &[u64], xb: &[u64], f
 }
 
 // ---- the window
-
-// The single steps between two runs: to the event, and past it.
-const AT_AN_EVENT: usize = 2;
 
 // Runs, and single steps between them, from XB's start and its advance.
 fn write_by_runs(
@@ -212,7 +206,7 @@ fn write_by_runs(
             here = go_along(here, start, n, &xa, &xb, from, spread, &mut out[written..]);
             written += n;
         } else {
-            let few = stretches::least(count - written, AT_AN_EVENT);
+            let few = stretches::least(count - written, stretches::AT_AN_EVENT);
             here = stepped::write_l5(here, start, few, &mut out[written..]);
             written += few;
         }

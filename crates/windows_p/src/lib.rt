@@ -156,9 +156,6 @@ fn fitting(ch: Channel, x1a: &[u64], x1b: &[u64], x2a: &[u64], x2b: &[u64]) -> b
     first & second & third & fourth
 }
 
-// A run that is shorter than this is stepped.
-const SHORT_RUN: usize = 8;
-
 // The steps of the run that is taken from the tables here: none where it is short, or a register is not the one of its phase.
 fn run_by_tables(
     ch: Channel,
@@ -174,7 +171,7 @@ fn run_by_tables(
     ensures { λ n. ⌜ (n ≤ most) × ((0 < n → Run n ch) × (0 < n → Fitting ch)) ⌝ }
 {
     let n = run_of(ch, most);
-    if n < SHORT_RUN {
+    if n < stretches::SHORT_RUN {
         return 0;
     }
     if fitting(ch, x1a, x1b, x2a, x2b) {
@@ -185,9 +182,6 @@ fn run_by_tables(
 }
 
 // ---- the window
-
-// The single steps between two runs: to the event, and past it.
-const AT_AN_EVENT: usize = 2;
 
 // Runs, and single steps between them.
 fn write_by_runs(
@@ -215,7 +209,7 @@ fn write_by_runs(
             here = go_along(here, n, x1a, x1b, x2a, x2b, spread, &mut out[written..]);
             written += n;
         } else {
-            let few = stretches::least(count - written, AT_AN_EVENT);
+            let few = stretches::least(count - written, stretches::AT_AN_EVENT);
             here = stepped::write_p(here, few, &mut out[written..]);
             written += few;
         }
