@@ -1,7 +1,7 @@
 #!/usr/bin/env bash
-# Everything from nothing: `rt ci` proves every crate, tries every wrong answer that has to be refused and runs every program. The C side is built and tested
-# in a copy meanwhile, as soon as rt ci has proved the call for C: its proofs are copied too, so that nothing is proved twice.
-# First comes what the C side and the documents said, and then all that rt ci said: its last line, the verdict, is the last.
+# Everything from nothing: `rt ci` proves every crate, tries every wrong answer that has to be refused and runs every program. The archive and the programs are
+# built and tested in a copy meanwhile, as soon as rt ci has proved them: its proofs are copied too, so that nothing is proved twice.
+# First comes what the tests in the copy said, and then all that rt ci said: its last line, the verdict, is the last.
 set -eu
 
 cd "$(dirname "$0")/.."
@@ -34,7 +34,7 @@ fi
 # rt starts a batch of jobs and waits for all of it before the next one, so that one job more than there are processors keeps these busy.
 export RT_JOBS="${RT_JOBS:-$(($(nproc) + 1))}"
 
-# In a process group of its own, so that it ends whole where the C side fails.
+# In a process group of its own, so that it ends whole where a test in the copy fails.
 set -m
 rt ci >"$verdict" 2>&1 &
 rt=$!
@@ -46,17 +46,28 @@ set +m
     tests/console/documents.sh
 )
 
+# Whether rt ci has proved all that is built in the copy.
+proved() {
+    local name
+    for name in gps_chips codes console standards; do
+        grep -q "^rt: $name proved" "$verdict" || return 1
+    done
+}
+
 # Nothing to test where rt ci ends before it gets so far: its own verdict says why.
-until grep -q '^rt: gps_chips proved' "$verdict" || ! kill -0 "$rt" 2>/dev/null; do
+until proved || ! kill -0 "$rt" 2>/dev/null; do
     sleep 1
 done
-if grep -q '^rt: gps_chips proved' "$verdict"; then
-    # What rt ci is writing just now may vanish under the copy. It is of crates above the call for C.
+if proved; then
+    # What rt ci is writing just now, for an edit that it tries, may vanish under the copy. Nothing here needs it.
     cp -R target "$copy/here/" 2>/dev/null || true
     (
         cd "$copy/here"
-        make --no-print-directory lib
+        make --no-print-directory lib codes console
         tests/host/run.sh
+        tests/reference/run.sh
+        tests/install/run.sh
+        tests/certificate/run.sh
     )
 fi
 
