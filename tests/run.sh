@@ -65,6 +65,7 @@ if proved; then
         cd "$copy/here"
         make --no-print-directory lib codes console
         tests/host/run.sh
+        tests/readme/run.sh
         tests/reference/run.sh
         tests/install/run.sh
         tests/certificate/run.sh
