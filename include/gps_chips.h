@@ -25,9 +25,10 @@
  * their chips take turns: CM's place n is sent first, then CL's place n.
  *
  * Linking. The archive has this one function and needs nothing else, no C
- * library either:
+ * library either. Where it was built, and where it is installed:
  *
  *     cc prog.c -Iinclude target/staticlib/libgps_chips.a
+ *     cc prog.c $(pkg-config --cflags --libs gps_chips)
  *
  * It is x86-64 code with the System V calling convention. The header is C99
  * and can be included from C++.

@@ -45,8 +45,7 @@ check_header() {
     "${cc[@]}" -std=c99 -pedantic -Wall -Wextra -Werror -x c -fsyntax-only include/gps_chips.h \
         || fail "the header doesn't compile as C99"
 
-    # The example in its comment, from its first #include to the brace that closes main.
-    sed -n '/^ \*     #include/,/^ \*     }/ s/^ \* \{0,5\}//p' include/gps_chips.h >"$out/example.c"
+    tests/host/example.sh >"$out/example.c"
     "${cc[@]}" "${strict[@]}" -pedantic "$out/example.c" "$archive" -o "$out/example" \
         || fail "the example in the header doesn't compile"
     printed=$("$out/example") || fail "the example in the header ended with status $?"
