@@ -8,8 +8,9 @@ use mathlib.Core.List.{List}
 use native.Mathlib.Omega.{arith}
 use lib.Dec.{eqb, eqb→eq}
 use lib.ListN.{length, getD}
-use lib.Pow.{field, mod-mod-pow, shr-shr}
+use lib.Pow.{shr-shr}
 use Rattle.registers.proofs.Below.{below, at}
+use Rattle.registers.proofs.Cut.{digit-below}
 use Rattle.digits.specs.Digits.{row, digit, bytesOf}
 use Rattle.digits.proofs.Rows.{row-length, row-at}
 
@@ -21,14 +22,10 @@ spreads b hb j hj =
 
 pub in-word : (word n j : ℕ) → n < 8 → j < 8 → digit 8 (word / 2 ^ (56 - n * 8) % 256) j ≡ digit 64 word (n * 8 + j)
 in-word word n j hn hj =
-    let low = 7 - j in
-    let bits : 8 ≡ (j + 1) + (7 - j) = omega (arith, hj) in
     let places : (56 - n * 8) + (7 - j) ≡ 63 - (n * 8 + j) = omega (arith, hn, hj) in
     let x = word / 2 ^ (56 - n * 8) in
-    ap (λ (k : ℕ). x % 2 ^ k / 2 ^ low % 2) bits
-    ∙ ap (λ (y : ℕ). y % 2) (field x (j + 1) low)
-    ∙ mod-mod-pow (x / 2 ^ low) j 1
-    ∙ ap (λ (y : ℕ). y % 2) (shr-shr word (56 - n * 8) low ∙ ap (λ (k : ℕ). word / 2 ^ k) places)
+    digit-below x 8 (7 - j) (omega arith)
+    ∙ ap (λ (y : ℕ). y % 2) (shr-shr word (56 - n * 8) (7 - j) ∙ ap (λ (k : ℕ). word / 2 ^ k) places)
 
 -- ---- the table
 

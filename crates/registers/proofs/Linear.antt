@@ -1,10 +1,11 @@
 -- Functions that are linear over `bitXor`, whatever the width of their numbers.
 --     Linear       f takes 0 to 0, and a sum bit by bit modulo 2 to the sum
+--     after, times-linear   what linear functions make one after the other is linear
 --     columns      the row of f: its values at the powers of two
 --     combine-is   the row of f, applied to a number, is f of the number
 --     agree        two linear functions that agree at the powers of two agree
 -- Assumes nothing.
-use mathlib.Core.Path.{_≡_, sym, ap, ap₂, _∙_}
+use mathlib.Core.Path.{_≡_, refl, sym, ap, ap₂, _∙_}
 use mathlib.Core.List.{List, [], _∷_}
 use Prim.Native.Nat.{ℕ, zero, suc, _+_, _*_, _/_, _%_, _^_, _<_}
 use native.Mathlib.Nat.{zero-mul, one-mul, mul-one, pow-suc, div-add-mod'}
@@ -12,6 +13,7 @@ use native.Mathlib.Omega.{arith}
 use lib.Arith.{lt-one}
 use lib.Pow.{pow-pos}
 use lib.Bits.{bitXor, xor-comm, xor-self, xor-zero-r, xor-shifted}
+use Rattle.registers.specs.Times.{times}
 use Rattle.registers.specs.Row.{combine}
 use Rattle.registers.proofs.Xor.{digit, low}
 
@@ -25,6 +27,11 @@ after {f} {g} lf lg =
       at-zero = ap f (lg .at-zero) ∙ lf .at-zero;
       at-sum = λ x y. ap f (lg .at-sum x y) ∙ lf .at-sum (g x) (g y);
     }
+
+pub times-linear : {f : ℕ → ℕ} → Linear f → (n : ℕ) → Linear (times f n)
+unfolding times
+times-linear l zero = record { at-zero = refl; at-sum = λ x y. refl }
+times-linear {f} l (suc n) = after (times-linear l n) l
 
 -- ---- a digit times a number
 

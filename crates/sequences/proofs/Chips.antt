@@ -8,10 +8,11 @@ use mathlib.Core.Path.{_≡_, sym, ap, ap₂, _∙_, subst}
 use mathlib.Core.List.{List}
 use native.Mathlib.Nat.{zero-add, zero-mul, div-one}
 use native.Mathlib.Omega.{arith}
-use lib.Pow.{high, split, field, shr-lt, shr-shr, mod-mod-pow}
+use lib.Pow.{high, split, field, shr-lt, shr-shr}
 use Rattle.registers.specs.Times.{times}
 use Rattle.registers.specs.Register.{stage, sumOf, shift}
 use Rattle.registers.proofs.Repeat.{times-add}
+use Rattle.registers.proofs.Cut.{digit-below}
 use Rattle.registers.proofs.Shifts.{sumOf-lt, shift-lt, tapped, times-keeps}
 use Rattle.sequences.specs.Sequences.{given, sequence, wordIn, Tells}
 use Rattle.sequences.proofs.Words.{given-behind, given-first, given-digit, word-is}
@@ -82,15 +83,12 @@ unfolding stage shift
 up-one s taps zero r h l = absurd (omega (arith, h))
 up-one s taps (suc k) r h l =
     let b = sumOf taps r in
-    let j = s - 2 - k in
-    let less : s - 1 ≡ (j + 1) + k = omega (arith, l) in
     let down : suc k + 1 - 1 ≡ 1 + k = omega arith in
     let same : suc k - 1 ≡ k = omega arith in
-    ap₂ (λ (x y : ℕ). (r % 2 ^ x * 2 + b) / 2 ^ y % 2) less down
-    ∙ ap (λ (x : ℕ). x % 2) (sym (shr-shr (r % 2 ^ ((j + 1) + k) * 2 + b) 1 k))
-    ∙ ap (λ (x : ℕ). x / 2 ^ k % 2) (half (r % 2 ^ ((j + 1) + k)) b (sumOf-lt taps r))
-    ∙ ap (λ (x : ℕ). x % 2) (field r (j + 1) k)
-    ∙ mod-mod-pow (r / 2 ^ k) j 1
+    ap (λ (y : ℕ). (r % 2 ^ (s - 1) * 2 + b) / 2 ^ y % 2) down
+    ∙ ap (λ (x : ℕ). x % 2) (sym (shr-shr (r % 2 ^ (s - 1) * 2 + b) 1 k))
+    ∙ ap (λ (x : ℕ). x / 2 ^ k % 2) (half (r % 2 ^ (s - 1)) b (sumOf-lt taps r))
+    ∙ digit-below r (s - 1) k (omega (arith, l))
     ∙ ap (λ (x : ℕ). r / 2 ^ x % 2) (sym same)
   where
     half : (x b : ℕ) → b < 2 → (x * 2 + b) / 2 ≡ x

@@ -1,45 +1,27 @@
 -- Sequences of a register that come round, and two ways to the same sequence.
---     comes-round    n shifts are n modulo the period
 --     delayed        two stages of G2 added are G2 delayed
 --     advanced       XB from a PRN's start is XB from all ones, advanced
 -- Assumes nothing.
 use mathlib.Core.Path.{_≡_, refl, sym, ap, ap₂, _∙_}
 use mathlib.Core.Bool.{Bool, _&&_}
 use mathlib.Core.List.{List, [], _∷_}
-use Prim.Native.Nat.{ℕ, zero, suc, _+_, _-_, _*_, _/_, _%_, _^_, _≤_, _<_}
-use native.Mathlib.Nat.{zero-mul, suc-mul, div-add-mod'}
+use Prim.Native.Nat.{ℕ, zero, suc, _+_, _-_, _*_, _%_, _^_, _≤_, _<_}
 use native.Mathlib.Omega.{arith}
 use lib.Dec.{T, eqb, ltb, lit<, eqb→eq, ltb→lt}
 use lib.ListN.{getD}
 use Rattle.registers.specs.Times.{times}
 use Rattle.registers.specs.Register.{stage, sumOf, shift, shiftG2, shiftXB}
 use Rattle.registers.specs.Row.{combine}
-use Rattle.registers.proofs.Repeat.{times-add}
+use Rattle.registers.proofs.Repeat.{times-add, times-round}
 use Rattle.registers.proofs.Below.{both, below, at}
-use Rattle.registers.proofs.Linear.{Linear, after, columns, agree}
+use Rattle.registers.proofs.Linear.{after, times-linear, columns, agree}
 use Rattle.registers.proofs.Shifts.{times-keeps, stage-linear, sumOf-linear}
 use Rattle.registers.proofs.Shifts as shifts
 use Rattle.leaps.specs.Leaps.{leapIf, leaps}
 use Rattle.leaps.proofs.Grown.{grown, by-leaps}
 use Rattle.starts.specs.Starts.{startG2, stagesCA, advancedXB}
+use Rattle.starts.proofs.Rounds.{g2-round}
 use Rattle.standard.specs.Standard.{codeDelays}
-
--- ---- round a period
-
-module _ (f : ℕ → ℕ) (p r : ℕ) (back : times f p r ≡ r) where
-  rounds : (q : ℕ) → times f (q * p) r ≡ r
-  rounds zero = ap (λ (n : ℕ). times f n r) (zero-mul p) ∙ (unfold times in refl)
-  rounds (suc q) = ap (λ (n : ℕ). times f n r) (suc-mul q p) ∙ times-add f (q * p) p r ∙ ap (times f p) (rounds q) ∙ back
-
-  pub comes-round : (n : ℕ) → times f n r ≡ times f (n % p) r
-  comes-round n =
-      ap (λ (m : ℕ). times f m r) (sym (div-add-mod' n p))
-      ∙ times-add f (n / p * p) (n % p) r
-      ∙ ap (times f (n % p)) (rounds (n / p))
-
-g2-back : times shiftG2 1023 startG2 ≡ startG2
-unfolding grown columns shift sumOf stage combine leaps leapIf
-g2-back = by-leaps shifts.g2 10 1023 startG2 (lit< tt) (lit< tt)
 
 xb-back : times shiftXB 8191 0b1111111111111 ≡ 0b1111111111111
 unfolding grown columns shift sumOf stage combine leaps leapIf
@@ -53,9 +35,9 @@ advanced advance m =
     let ones : ℕ = 0b1111111111111 in
     let same : (advance + m % 8191) % 8191 ≡ (advance + m) % 8191 = omega arith in
     sym (times-add shiftXB advance (m % 8191) ones)
-    ∙ comes-round shiftXB 8191 ones xb-back (advance + m % 8191)
+    ∙ times-round shiftXB 8191 ones xb-back (advance + m % 8191)
     ∙ ap (λ (n : ℕ). times shiftXB n ones) same
-    ∙ sym (comes-round shiftXB 8191 ones xb-back (advance + m))
+    ∙ sym (times-round shiftXB 8191 ones xb-back (advance + m))
 
 -- ---- G2 delayed
 
@@ -63,11 +45,6 @@ columns-same : (f g : ℕ → ℕ) (i n : ℕ) → ((j : ℕ) → i ≤ j → j 
 unfolding columns
 columns-same f g i zero h = refl
 columns-same f g i (suc n) h = ap₂ _∷_ (h i (omega arith) (omega arith)) (columns-same f g (suc i) n (λ j a b. h j (omega arith) (omega arith)))
-
-times-linear : {f : ℕ → ℕ} → Linear f → (n : ℕ) → Linear (times f n)
-unfolding times
-times-linear l zero = record { at-zero = refl; at-sum = λ x y. refl }
-times-linear {f} l (suc n) = after (times-linear l n) l
 
 abbrev leapsG2 : List ℕ
 leapsG2 = grown 10 (columns shiftG2 0 10)
@@ -110,5 +87,5 @@ module _ (k : ℕ) (listed : k < 37) where
       pair-is (times shiftG2 (p % 1023) startG2) (times-keeps shifts.g2 (p % 1023) startG2 (lit< tt))
       ∙ ap (stage 10)
       (sym (times-add shiftG2 (p % 1023) on startG2)
-      ∙ comes-round shiftG2 1023 startG2 g2-back (p % 1023 + on)
+      ∙ times-round shiftG2 1023 startG2 g2-round (p % 1023 + on)
       ∙ ap (λ (n : ℕ). times shiftG2 n startG2) same)

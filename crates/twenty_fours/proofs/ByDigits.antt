@@ -18,7 +18,7 @@ use lib.Pow.{pow-pos, pow-mono, high, low, split, mod-pow-add, shl-lt, shl-exact
 use Rattle.registers.specs.Register.{stage, shiftL2}
 use Rattle.registers.specs.Times.{times}
 use Rattle.registers.proofs.Xor.{xor-assoc}
-use Rattle.registers.proofs.Linear.{Linear}
+use Rattle.registers.proofs.Linear.{Linear, times-linear}
 use Rattle.registers.proofs.Shifts.{l2, stage-lt, stage-linear, times-keeps}
 use Rattle.sequences.specs.Sequences.{given}
 use Rattle.sequences.proofs.Words.{given-lt, given-first, given-digit}
@@ -27,11 +27,6 @@ use Rattle.digits.proofs.Rows.{row-length, row-at}
 use Rattle.twenty_fours.specs.TwentyFours.{twentyFourOf, entryOf, tableL2}
 
 -- ---- what is given is linear
-
-times-sum : {f : ℕ → ℕ} → Linear f → (n x y : ℕ) → times f n (bitXor x y) ≡ bitXor (times f n x) (times f n y)
-unfolding times
-times-sum l zero x y = refl
-times-sum {f} l (suc n) x y = ap (times f n) (l .at-sum x y) ∙ times-sum l n (f x) (f y)
 
 given-sum : {f : ℕ → ℕ} → Linear f → (s n x y a b : ℕ) → given f s n (bitXor x y) (bitXor a b) ≡ bitXor (given f s n x a) (given f s n y b)
 unfolding given
@@ -56,7 +51,7 @@ after-fits r h = omega (arith, after-lt r h)
 
 sum : (x y : ℕ) → x < 2 ^ 27 → y < 2 ^ 27 → twentyFourOf (bitXor x y) ≡ bitXor (twentyFourOf x) (twentyFourOf y)
 sum x y hx hy =
-    ap₂ (λ (g r : ℕ). g * 2 ^ 32 + r) (given-sum (l2 .linear) 1 24 x y 0 0) (times-sum (l2 .linear) 24 x y)
+    ap₂ (λ (g r : ℕ). g * 2 ^ 32 + r) (given-sum (l2 .linear) 1 24 x y 0 0) (times-linear (l2 .linear) 24 .at-sum x y)
     ∙ sym (xor-block 32 (chips x) (chips y) (after x) (after y) (after-fits x hx) (after-fits y hy))
 
 -- ---- the digits beyond the lowest twenty-four: they move down, and give no chip

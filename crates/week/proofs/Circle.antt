@@ -1,14 +1,14 @@
 -- A step that goes through p values and then begins again.
 --     around   n steps from the first value lead to the value at n modulo p
 -- Assumes nothing.
-use mathlib.Core.Path.{_≡_, refl, sym, ap, _∙_}
+use mathlib.Core.Path.{_≡_, sym, ap, _∙_}
 use mathlib.Core.Logic.{_⊎_, inl, inr, ⊎-elim}
 use Prim.Native.Nat.{ℕ, zero, suc, _+_, _*_, _/_, _%_, _≤_, _<_}
 use native.Mathlib.Nat.{mod-lt, zero-mod, suc-mod, mod-eq-of-lt, mod-self, eq-or-lt-of-le, div-add-mod', add-suc, suc-mul, add-zero}
 use native.Mathlib.Omega.{arith}
 use lib.Arith.{digits-div}
 use Rattle.registers.specs.Times.{times}
-use Rattle.registers.proofs.Repeat.{times-last}
+use Rattle.registers.proofs.Repeat.{times-none, times-last}
 
 pub less-or : (a b : ℕ) → (a < b) ⊎ (b ≤ a)
 less-or a b = elim (native.Mathlib.Decide.decLt a b) [ yes h ↦ inl h | no h ↦ inr (omega arith) ]
@@ -48,10 +48,6 @@ module _ {A : Type 0} (f : A → A) (p : ℕ) (some : 0 < p) (at : ℕ → A)
         (λ l. next (m % p) l ∙ ap at (sym (mod-next p m l)))
         (eq-or-lt-of-le (mod-lt m some))
 
-    times-zero : (x : A) → times f 0 x ≡ x
-    unfolding times
-    times-zero x = refl
-
     pub around : (n : ℕ) → times f n (at 0) ≡ at (n % p)
-    around zero = times-zero (at 0) ∙ ap at (sym (zero-mod p))
+    around zero = times-none f (at 0) ∙ ap at (sym (zero-mod p))
     around (suc n) = times-last f n (at 0) ∙ ap f (around n) ∙ next-in n
