@@ -1,20 +1,19 @@
 -- The delay line by words.
 --     line-is        the line after j chips of a word
 --     delayed-tells  the bits that P takes of the line, as a word
---     line-later     a line that has taken in some, and takes in more
 --     line-anew      the line after a whole word
---     line-lt        a line stays within its 37 bits
 -- Assumes nothing.
 use Prim.Native.Nat.{ℕ, zero, suc, _+_, _-_, _*_, _/_, _%_, _^_, _<_, _≤_}
 use mathlib.Core.Path.{_≡_, refl, sym, ap, ap₂, _∙_, subst}
-use native.Mathlib.Nat.{add-zero, add-suc, zero-add, mul-one, mul-assoc, pow-suc, mod-lt, mod-eq-of-lt, zero-mul}
+use native.Mathlib.Nat.{add-zero, zero-add, mul-one, mul-assoc, pow-suc, mod-lt, mod-eq-of-lt, zero-mul}
 use native.Mathlib.Omega.{arith}
 use lib.Bits.{bitOr, or-shifted}
-use lib.Dec.{lit<}
-use lib.Pow.{pow-pos, split, pow-add, high, low, field, mod-mod-pow, mod-pow-add, shr-shr, shr-lt, shl-shr}
+use lib.Pow.{pow-pos, split, pow-add, high, low, mod-pow-add, shr-shr, shr-lt, shl-shr}
 use Rattle.registers.specs.Register.{stage}
+use Rattle.registers.proofs.Cut.{digit-below}
+use Rattle.machine.specs.Inner.{lineFrom}
 use Rattle.sequences.specs.Sequences.{Tells}
-use Rattle.delay_lines.specs.Lines.{delayedWord, lineBy}
+use Rattle.delay_lines.specs.Lines.{delayedWord}
 
 -- a number divided where a multiple stands before it
 behind : (a m n w : ℕ) → (a * 2 ^ (m + n) + w) / 2 ^ n ≡ a * 2 ^ m + w / 2 ^ n
@@ -27,29 +26,13 @@ behind a m n w =
     regroup : (a p q x y : ℕ) → a * (p * q) + (x * q + y) ≡ (a * p + x) * q + y
     regroup a p q x y = omega arith
 
--- a digit of a remainder
-digit-of : (v j m k : ℕ) → k ≡ (j + 1) + m → v % 2 ^ k / 2 ^ m % 2 ≡ v / 2 ^ m % 2
-digit-of v j m k e =
-    ap (λ (n : ℕ). v % 2 ^ n / 2 ^ m % 2) e ∙ ap (λ (x : ℕ). x % 2) (field v (j + 1) m) ∙ mod-mod-pow (v / 2 ^ m) j 1
-
-pub line-lt : (x : ℕ → ℕ) (line j : ℕ) → line < 2 ^ 37 → lineBy x line j < 2 ^ 37
-unfolding lineBy
-line-lt x line zero h = h
-line-lt x line (suc j) h = mod-lt (lineBy x line j * 2 + x j) (lit< tt)
-
-pub line-later : (x : ℕ → ℕ) (line i j : ℕ) → lineBy (λ n. x (i + n)) (lineBy x line i) j ≡ lineBy x line (i + j)
-unfolding lineBy
-line-later x line i zero = ap (lineBy x line) (sym (add-zero i))
-line-later x line i (suc j) =
-    ap (λ (l : ℕ). (l * 2 + x (i + j)) % 2 ^ 37) (line-later x line i j) ∙ ap (lineBy x line) (sym (add-suc i j))
-
 -- after a whole word nothing is left of the line
 pub line-anew : (line word : ℕ) → word % 2 ^ 37 ≡ (line * 2 ^ 64 + word / 2 ^ (64 - 64)) % 2 ^ 37
 line-anew line word = omega arith
 
-module _ (x : ℕ → ℕ) (line word k : ℕ) (line-in : line < 2 ^ 37) (word-in : word < 2 ^ 64) (k-in : k ≤ 64) (tells : Tells word k x) where
-  pub line-is : (j : ℕ) → j ≤ k → lineBy x line j ≡ (line * 2 ^ j + word / 2 ^ (64 - j)) % 2 ^ 37
-  unfolding lineBy
+module _ (x : ℕ → ℕ) (from line word k : ℕ) (line-in : line < 2 ^ 37) (word-in : word < 2 ^ 64) (k-in : k ≤ 64) (tells : Tells word k (λ j. x (from + j))) where
+  pub line-is : (j : ℕ) → j ≤ k → lineFrom 37 x from j line ≡ (line * 2 ^ j + word / 2 ^ (64 - j)) % 2 ^ 37
+  unfolding lineFrom
   line-is zero h =
       sym (mod-eq-of-lt line-in) ∙ ap (λ (v : ℕ). v % 2 ^ 37) (sym (ap₂ (λ (a b : ℕ). a + b) (mul-one line) none ∙ add-zero line))
     where
@@ -60,7 +43,7 @@ module _ (x : ℕ → ℕ) (line word k : ℕ) (line-in : line < 2 ^ 37) (word-i
       let after : 64 - suc j ≡ 63 - j = omega arith in
       let before : 64 - j ≡ n + 1 = omega (arith, h, k-in) in
       let half : word / 2 ^ (64 - j) ≡ word / 2 ^ n / 2 = ap (λ (m : ℕ). word / 2 ^ m) before ∙ sym (shr-shr word n 1) in
-      let bit : x j ≡ word / 2 ^ n % 2 = sym (tells j (omega (arith, h))) in
+      let bit : x (from + j) ≡ word / 2 ^ n % 2 = sym (tells j (omega (arith, h))) in
       ap₂ (λ (a b : ℕ). (a * 2 + b) % 2 ^ 37) (line-is j (omega (arith, h)) ∙ ap (λ (v : ℕ). (line * 2 ^ j + v) % 2 ^ 37) half) bit
       ∙ doubled (line * 2 ^ j) (word / 2 ^ n)
       ∙ ap₂ (λ (p m : ℕ). (p + word / 2 ^ m) % 2 ^ 37) (mul-assoc line (2 ^ j) 2 ∙ ap (λ (p : ℕ). line * p) (sym (pow-suc 2 j))) (sym after)
@@ -94,7 +77,7 @@ module _ (x : ℕ → ℕ) (line word k : ℕ) (line-in : line < 2 ^ 37) (word-i
       in
       ap (λ (v : ℕ). bitOr v (word / 2 ^ prn)) left ∙ or-shifted (line % 2 ^ prn) n (word / 2 ^ prn) few ∙ sym right
 
-  pub delayed-tells : (prn : ℕ) → 1 ≤ prn → prn ≤ 37 → Tells (delayedWord line word prn) k (λ j. stage prn (lineBy x line j))
+  pub delayed-tells : (prn : ℕ) → 1 ≤ prn → prn ≤ 37 → Tells (delayedWord line word prn) k (λ j. stage prn (lineFrom 37 x from j line))
   unfolding stage whole
   delayed-tells prn h l j b =
       let m = 63 - j in
@@ -104,8 +87,8 @@ module _ (x : ℕ → ℕ) (line word k : ℕ) (line-in : line < 2 ^ 37) (word-i
       = sym (ap (λ (n : ℕ). (line * 2 ^ n + word) / 2 ^ (64 - j)) all ∙ behind line j (64 - j) word)
       in
       ap (λ (v : ℕ). v / 2 ^ m % 2) (delayed-is prn (omega (arith, l)))
-      ∙ digit-of (whole / 2 ^ prn) j m 64 (omega (arith, b, k-in))
+      ∙ digit-below (whole / 2 ^ prn) 64 m (omega (arith, b, k-in))
       ∙ ap (λ (v : ℕ). v % 2) (shr-shr whole prn m ∙ ap (λ (n : ℕ). whole / 2 ^ n) later ∙ sym (shr-shr whole (64 - j) (prn - 1)))
       ∙ sym
       (ap (λ (v : ℕ). v / 2 ^ (prn - 1) % 2) (line-is j (omega (arith, b)) ∙ ap (λ (v : ℕ). v % 2 ^ 37) so-far)
-      ∙ digit-of (whole / 2 ^ (64 - j)) (37 - prn) (prn - 1) 37 (omega (arith, h, l)))
+      ∙ digit-below (whole / 2 ^ (64 - j)) 37 (prn - 1) (omega (arith, h, l)))

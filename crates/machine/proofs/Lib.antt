@@ -5,3 +5,4 @@ pub mod Ranges
 pub mod RangeLaw
 pub mod Numbered
 pub mod Running
+pub mod Lines

@@ -1,4 +1,5 @@
 -- Generators that are never held, and generators that the signal lacks.
+--     running         a mode in range of one that is never held
 --     steps-running   the step of one that is never held needs no look at its mode
 --     start-due       its start vector matters only at the end of a cycle
 --     lacking-stays   a step leaves one that the signal lacks as it was
@@ -16,7 +17,7 @@ use Rattle.machine.specs.declared.Mode.{Mode}
 use Rattle.machine.specs.declared.Mode.the-variants.{Running, Held}
 use Rattle.machine.specs.declared.Generator.{Generator}
 
-running : (m : Mode) → modeInRange false m ≡ true → m ≡ Running
+pub running : (m : Mode) → modeInRange false m ≡ true → m ≡ Running
 running Running h = refl
 running (Held n) h = cc
 

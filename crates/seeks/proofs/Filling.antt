@@ -10,14 +10,16 @@ use Rattle.machine.specs.Generators.{stepGenerator}
 use Rattle.machine.specs.Signals.{weekP, signalP, x2a, x2b}
 use Rattle.machine.specs.Machine.{nextLine, inRange}
 use Rattle.machine.specs.Ranged.{RangedKind, RangedAs}
+use Rattle.machine.specs.Inner.{lineFrom}
 use Rattle.machine.specs.declared.Generator.{Generator}
 use Rattle.machine.proofs.Ranges.{ranged}
 use Rattle.machine.proofs.RangeLaw.{reached-in}
 use Rattle.machine.proofs.Numbered.{fields-as}
+use Rattle.machine.proofs.Lines.{line-lt}
 use Rattle.week.specs.Standing.{generatorAt}
-use Rattle.week.specs.Week.{chipX2, lineFrom, coursesP, courseX2A, courseX2B, channelAt}
+use Rattle.week.specs.Week.{chipX2, coursesP, courseX2A, courseX2B, channelAt}
 use Rattle.week.proofs.WeekEnd.{late, x2a-goes, x2b-goes}
-use Rattle.week.proofs.DelayLine.{line-lt, line-next}
+use Rattle.week.proofs.DelayLine.{line-next}
 use Rattle.week.proofs.LawOfTheWeek.{at-place}
 use Rattle.seeks.specs.Inner.{Filled}
 

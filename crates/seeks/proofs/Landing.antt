@@ -15,12 +15,13 @@ use borrow.Author.Tests.{lt-ltb}
 use Rattle.registers.specs.Times.{times}
 use Rattle.machine.specs.Generators.{Kind, fresh}
 use Rattle.machine.specs.Signals.{Signal, weekOf, none, plain, signalP, signalOf, x1a, x1b, x2a, x2b}
+use Rattle.machine.specs.Inner.{lineFrom}
 use Rattle.machine.specs.declared.Mode.the-variants.{Running}
 use Rattle.machine.specs.declared.Generator.{Generator}
 use Rattle.machine.specs.declared.Channel.{Channel}
 use Rattle.week.specs.declared.Course.{Course}
 use Rattle.week.specs.Standing.{inPeriod, standingAt, generatorAt}
-use Rattle.week.specs.Week.{Courses, chipX2, lineAt, lineFrom, idle, plainCourses, coursesP, coursesOf, courseX1A, courseX1B, courseX2A, courseX2B}
+use Rattle.week.specs.Week.{Courses, chipX2, lineAt, idle, plainCourses, coursesP, coursesOf, courseX1A, courseX1B, courseX2A, courseX2B}
 use Rattle.week.proofs.SignalWeeks.{no-line}
 use Rattle.week.proofs.DelayLine.{line-from}
 use Rattle.week.proofs.LawOfTheWeek.{law-of-the-week, at-place}

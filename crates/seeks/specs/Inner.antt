@@ -6,9 +6,10 @@ use lib.Count.{ones}
 use Rattle.machine.specs.Generators.{fresh}
 use Rattle.machine.specs.Signals.{Signal, signalP, x2a, x2b}
 use Rattle.machine.specs.Machine.{advance, opened}
+use Rattle.machine.specs.Inner.{lineFrom}
 use Rattle.machine.specs.declared.Generator.{Generator}
 use Rattle.week.specs.Standing.{standingAt, generatorAt}
-use Rattle.week.specs.Week.{Courses, chipX2, lineFrom, channelAt, coursesP, courseX2A, courseX2B}
+use Rattle.week.specs.Week.{Courses, chipX2, channelAt, coursesP, courseX2A, courseX2B}
 use Rattle.seeks.specs.Leaps.{leapsTo}
 use Rattle.seeks.specs.declared.Landed.{Landed}
 use Rattle.seeks.specs.declared.Fill.{Fill}

@@ -13,10 +13,11 @@ use Rattle.registers.specs.Times.{times}
 use Rattle.machine.specs.Generators.{upTo}
 use Rattle.machine.specs.Signals.{Signal, signalOf}
 use Rattle.machine.specs.Machine.{atWeekEnd, nextEpoch, stepAs, stepWith, step, advance, openedAs, opened}
+use Rattle.machine.specs.Inner.{lineFrom}
 use Rattle.machine.specs.declared.Generator.{Generator}
 use Rattle.machine.proofs.Numbered.{step-is, opened-is}
 use Rattle.week.specs.Standing.{generatorAt}
-use Rattle.week.specs.Week.{Courses, chipX2, lineFrom, lineAt, channelAt}
+use Rattle.week.specs.Week.{Courses, chipX2, lineAt, channelAt}
 use Rattle.week.proofs.Circle.{around}
 use Rattle.week.proofs.GeneratorWeek.{Goes}
 

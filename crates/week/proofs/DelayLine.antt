@@ -7,11 +7,13 @@
 use mathlib.Core.Path.{_≡_, refl, sym, ap, ap₂, _∙_}
 use mathlib.Core.Logic.{⊎-elim}
 use Prim.Native.Nat.{ℕ, zero, suc, _+_, _-_, _*_, _/_, _%_, _^_, _≤_, _<_}
-use native.Mathlib.Nat.{mod-lt, mod-eq-of-lt, mul-add-mod-self-right, div-add-mod', add-zero, add-assoc, add-suc, pow-suc, mul-one, zero-add}
+use native.Mathlib.Nat.{mod-eq-of-lt, mul-add-mod-self-right, div-add-mod', add-zero, pow-suc, mul-one, zero-add}
 use native.Mathlib.Nat.{not-suc-le-zero}
 use native.Mathlib.Omega.{arith}
-use lib.Pow.{pow-pos, field, mod-mod-pow, shr-shr}
-use Rattle.week.specs.Week.{lineFrom}
+use lib.Pow.{shr-shr}
+use Rattle.registers.proofs.Cut.{digit-below}
+use Rattle.machine.specs.Inner.{lineFrom}
+use Rattle.machine.proofs.Lines.{line-lt, line-add}
 use Rattle.week.proofs.Circle.{less-or}
 
 module _ (bits : ℕ) (x : ℕ → ℕ) where
@@ -19,11 +21,6 @@ module _ (bits : ℕ) (x : ℕ → ℕ) where
   unfoldable digits : ℕ → ℕ → ℕ
   digits s zero = 0
   digits s (suc k) = digits s k * 2 + x (s + k)
-
-  pub line-lt : (s k line : ℕ) → line < 2 ^ bits → lineFrom bits x s k line < 2 ^ bits
-  unfolding lineFrom
-  line-lt s zero line h = h
-  line-lt s (suc k) line h = mod-lt (lineFrom bits x s k line * 2 + x (s + k)) (pow-pos bits)
 
   pub line-next : (s k line : ℕ) → (lineFrom bits x s k line * 2 + x (s + k)) % 2 ^ bits ≡ lineFrom bits x s (suc k) line
   unfolding lineFrom
@@ -57,13 +54,6 @@ module _ (bits : ℕ) (x : ℕ → ℕ) where
       filled : (line : ℕ) → line < 2 ^ bits → lineFrom bits x s bits line ≡ digits s bits % 2 ^ bits
       filled line h = line-is s bits line h ∙ mul-add-mod-self-right line (2 ^ bits) (digits s bits)
 
-  line-add : (s i j line : ℕ) → lineFrom bits x s (i + j) line ≡ lineFrom bits x (s + i) j (lineFrom bits x s i line)
-  unfolding lineFrom
-  line-add s i zero line = ap (λ (n : ℕ). lineFrom bits x s n line) (add-zero i)
-  line-add s i (suc j) line =
-      ap (λ (n : ℕ). lineFrom bits x s n line) (add-suc i j)
-      ∙ ap₂ (λ (n m : ℕ). (n * 2 + x m) % 2 ^ bits) (line-add s i j line) (sym (add-assoc s i j))
-
   -- from as many places before as the line has bits, or from place 0, where `-` stops
   pub line-from : (n line : ℕ) → line < 2 ^ bits → lineFrom bits x (n - bits) (n - (n - bits)) line ≡ lineFrom bits x 0 n line
   line-from n line h =
@@ -76,21 +66,13 @@ module _ (bits : ℕ) (x : ℕ → ℕ) where
       let all : n - (n - bits) ≡ bits = omega arith in
       let sum : n - bits + bits ≡ n = omega arith in
       ap (λ (m : ℕ). lineFrom bits x (n - bits) m line) all
-      ∙ forgets (n - bits) line (lineFrom bits x 0 (n - bits) line) h (line-lt 0 (n - bits) line h)
+      ∙ forgets (n - bits) line (lineFrom bits x 0 (n - bits) line) h (line-lt bits x 0 (n - bits) line h)
       ∙ ap (λ (m : ℕ). lineFrom bits x m bits (lineFrom bits x 0 (n - bits) line)) (sym (zero-add (n - bits)))
-      ∙ sym (line-add 0 (n - bits) bits line)
+      ∙ sym (line-add bits x 0 (n - bits) bits line)
       ∙ ap (λ (m : ℕ). lineFrom bits x 0 m line) sum)
       (less-or n bits)
 
 -- ---- its digits
-
--- a digit below the cut
-digit-below : (y bits k : ℕ) → k < bits → y % 2 ^ bits / 2 ^ k % 2 ≡ y / 2 ^ k % 2
-digit-below y bits k h =
-    let width : bits ≡ bits - 1 - k + 1 + k = omega arith in
-    ap (λ (n : ℕ). y % 2 ^ n / 2 ^ k % 2) width
-    ∙ ap (λ (n : ℕ). n % 2) (field y (bits - 1 - k + 1) k)
-    ∙ mod-mod-pow (y / 2 ^ k) (bits - 1 - k) 1
 
 digit-up : (y b bits k : ℕ) → b < 2 → suc k < bits → (y * 2 + b) % 2 ^ bits / 2 ^ suc k % 2 ≡ y / 2 ^ k % 2
 digit-up y b bits k h l =

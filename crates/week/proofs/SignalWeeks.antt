@@ -18,11 +18,12 @@ use Rattle.machine.specs.Generators.{Kind, upTo}
 use Rattle.machine.specs.Signals.{Signal, weekCA, weekP, weekL2, weekL5, none, plain, g1, g2, x1a, x1b, x2a, x2b, cm, cl, xa, xb, signalCA, signalP}
 use Rattle.machine.specs.Signals.{fromCM, fromCL, fromL5, signals, noSignal, signalOf}
 use Rattle.machine.specs.Machine.{returned, nextEpoch}
+use Rattle.machine.specs.Inner.{lineFrom}
 use Rattle.machine.specs.declared.Generator.{Generator}
 use Rattle.machine.specs.declared.Channel.{Channel}
 use Rattle.week.specs.declared.Course.{Course}
 use Rattle.week.specs.Standing.{standingAt, generatorAt}
-use Rattle.week.specs.Week.{Courses, chipX2, lineFrom, lineAt, idle, plainCourses, courseG, courseX1A, courseCM, courseCL, courseXA, courseXB}
+use Rattle.week.specs.Week.{Courses, chipX2, lineAt, idle, plainCourses, courseG, courseX1A, courseCM, courseCL, courseXA, courseXB}
 use Rattle.week.specs.Week.{coursesCA, coursesP, coursesCM, coursesCL, coursesL5, courses, noCourses, coursesOf}
 use Rattle.week.proofs.Circle.{less-or}
 use Rattle.week.proofs.Stepping.{both-pass, one-fails}

@@ -1,10 +1,11 @@
 -- The channel at each place of the week, field by field.
 -- Assumes nothing.
 use mathlib.Core.List.{List, [], _∷_}
-use Prim.Native.Nat.{ℕ, zero, suc, _+_, _-_, _*_, _/_, _%_, _^_}
+use Prim.Native.Nat.{ℕ, _+_, _-_, _*_, _/_, _%_}
 use lib.ListN.{getD}
 use Rattle.registers.specs.Register.{stage}
 use Rattle.machine.specs.Signals.{Signal, weekCA, weekP, weekL2, weekL5}
+use Rattle.machine.specs.Inner.{lineFrom}
 use Rattle.machine.specs.declared.Channel.{Channel}
 use Rattle.week.specs.declared.Course.{Course}
 use Rattle.week.specs.Standing.{generatorAt}
@@ -20,11 +21,6 @@ pub record Courses : Type 0 where
 -- the X2 chip at a place
 abbrev pub chipX2 : Signal → Courses → ℕ → ℕ
 chipX2 s c w = (stage 12 (generatorAt (s .third) (c .third) w .register) + stage 12 (generatorAt (s .fourth) (c .fourth) w .register)) % 2
-
--- a delay line n steps on from place `from`, where it is `line`, the chip taken in at place w being x w
-unfoldable pub lineFrom : ℕ → (ℕ → ℕ) → ℕ → ℕ → ℕ → ℕ
-lineFrom bits x from zero line = line
-lineFrom bits x from (suc n) line = (lineFrom bits x from n line * 2 + x (from + n)) % 2 ^ bits
 
 unfoldable pub lineAt : Signal → Courses → ℕ → ℕ
 lineAt s c w = lineFrom (s .lineBits) (chipX2 s c) 0 w (s .lineStart)

@@ -3,10 +3,11 @@
 --     channel-is   the channel after it, its registers read from the tables
 --     rooms, fitting-is   the test of the registers
 -- Assumes nothing.
-use Prim.Native.Nat.{ℕ, _+_, _-_, _/_, _^_, _<_, _≤_}
+use Prim.Native.Nat.{ℕ, _+_, _-_, _*_, _/_, _%_, _^_, _<_, _≤_}
 use mathlib.Core.Path.{_≡_, refl, sym, ap, _∙_}
 use mathlib.Core.List.{List}
 use mathlib.Core.Bool.{true}
+use native.Mathlib.Nat.{zero-add}
 use native.Mathlib.Omega.{arith}
 use lib.Dec.{lit≤, lit<, eqb}
 use lib.ListN.{length}
@@ -16,6 +17,7 @@ use Rattle.starts.specs.Starts.{startX1A, startX1B, startX2A, startX2B}
 use Rattle.machine.specs.Signals.{signalP, x1a, x1b, x2a, x2b}
 use Rattle.machine.specs.Machine.{advance, chips}
 use Rattle.machine.specs.Ranged.{RangedAs}
+use Rattle.machine.specs.Inner.{lineFrom}
 use Rattle.machine.specs.declared.Generator.{Generator}
 use Rattle.machine.specs.declared.Channel.{Channel}
 use Rattle.sequences.specs.Sequences.{sequence, wordIn}
@@ -25,13 +27,12 @@ use Rattle.stretches.proofs.Arrivals.{x1b-runs-on, x2a-runs-on, x2b-runs-on}
 use Rattle.stretches.proofs.LawOfRuns.{goes}
 use Rattle.stretches.proofs.Along.{Along, at, at-is, chips-are}
 use Rattle.stretches.proofs.Tables.{table-length, register-there, after-is, fits-is}
-use Rattle.delay_lines.specs.Lines.{lineBy}
 use Rattle.stepped.specs.Inner.{Of}
-use Rattle.windows_p.specs.Runs.{Tables, Fitting, Run, lineAlong, chipAlong}
+use Rattle.windows_p.specs.Runs.{Tables, Fitting, Run, chipX2, lineAlong, chipAlong}
 
 module _ (n : ℕ) (ch : Channel) (run : Run n ch) where
   along : Along (signalP (ch .prn)) n ch (aheadBy x1a (ch .first)) (aheadBy x1b (ch .second)) (aheadBy x2a (ch .third)) (aheadBy x2b (ch .fourth)) (lineAlong ch)
-  unfolding lineBy
+  unfolding lineFrom
   along =
       record {
         first-goes = goes x1a (λ e p c apart. refl) n (ch .first) (run .first-stretch);
@@ -40,7 +41,7 @@ module _ (n : ℕ) (ch : Channel) (run : Run n ch) where
         fourth-goes = goes x2b x2b-runs-on n (ch .fourth) (run .fourth-stretch);
         one-cycle = λ j. refl;
         line-starts = refl;
-        line-goes = λ j h. refl;
+        line-goes = λ j h. ap (λ (m : ℕ). (lineAlong ch j * 2 + chipX2 ch m) % 2 ^ 37) (sym (zero-add j));
         in-week = run .week;
       }
 
@@ -124,20 +125,7 @@ module _ (a b c d : List ℕ) (t : Tables a b c d) where
         let two = second-is ∙ after-is x1b b 0 12 4092 registers-x1b (ch .second) n (fit .second-fits) (run .some) (run .second-stretch) in
         let three = third-is ∙ after-is x2a c 0 12 4091 registers-x2a (ch .third) n (fit .third-fits) (run .some) (run .third-stretch) in
         let four = fourth-is ∙ after-is x2b d 0 12 4092 registers-x2b (ch .fourth) n (fit .fourth-fits) (run .some) (run .fourth-stretch) in
-        let all : Path Channel
-        (record {
-          signal = ch .signal;
-          prn = ch .prn;
-          place = ch .place + n;
-          epoch = ch .epoch;
-          delay = line;
-          first = first;
-          second = second;
-          third = third;
-          fourth = fourth;
-        })
-        (there n ch run of n)
-        = λ i.
+        (λ i.
         record {
           signal = ch .signal;
           prn = ch .prn;
@@ -148,6 +136,5 @@ module _ (a b c d : List ℕ) (t : Tables a b c d) where
           second = two i;
           third = three i;
           fourth = four i;
-        }
-        in
-        all ∙ sym (run-advance n ch run of)
+        })
+        ∙ sym (run-advance n ch run of)

@@ -6,6 +6,7 @@
 use Prim.Native.Nat.{ℕ, _+_, _-_, _*_, _/_, _%_, _^_, _<_, _≤_}
 use mathlib.Core.Path.{_≡_, sym, ap, _∙_, subst}
 use mathlib.Core.List.{List}
+use native.Mathlib.Nat.{zero-add}
 use native.Mathlib.Omega.{arith}
 use lib.Bits.{bitXor}
 use lib.Dec.{lit≤}
@@ -13,13 +14,15 @@ use lib.ListN.{length}
 use Rattle.registers.specs.Register.{stage}
 use Rattle.machine.specs.Generators.{Kind}
 use Rattle.machine.specs.Signals.{x1a, x1b, x2a, x2b}
+use Rattle.machine.specs.Inner.{lineFrom}
 use Rattle.machine.specs.declared.Channel.{Channel}
+use Rattle.machine.proofs.Lines.{line-lt, line-add}
 use Rattle.sequences.specs.Sequences.{sequence, Tells}
 use Rattle.stretches.specs.Stretches.{aheadBy, Within, Tabled}
 use Rattle.stretches.proofs.LawOfRuns.{sum-tells}
 use Rattle.stretches.proofs.Tables.{from-start, words-within, words-tell}
-use Rattle.delay_lines.specs.Lines.{delayedWord, lineBy}
-use Rattle.delay_lines.proofs.DelayedWords.{line-is, delayed-tells, line-later, line-lt}
+use Rattle.delay_lines.specs.Lines.{delayedWord}
+use Rattle.delay_lines.proofs.DelayedWords.{line-is, delayed-tells}
 use Rattle.windows_p.specs.Runs.{Tables, Fitting, Run, wordAt, chipX2, lineAlong, chipAlong}
 
 -- ---- the tables
@@ -83,20 +86,22 @@ module _ (a b c d : List ℕ) (t : Tables a b c d) (n i : ℕ) (ch : Channel) (r
       x2-word = subst (λ (w : ℕ). Tells w 64 (λ j. chipX2 ch (i + j))) (sym x2-is) x2-tells
 
       line-in : line < 2 ^ 37
-      line-in = rw line-so-far (line-lt (chipX2 ch) (ch .delay) i (run .line))
+      line-in = rw line-so-far (line-lt 37 (chipX2 ch) 0 i (ch .delay) (run .line))
 
-      on : (j : ℕ) → lineBy (λ m. chipX2 ch (i + m)) line j ≡ lineAlong ch (i + j)
-      on j = rw line-so-far (line-later (chipX2 ch) (ch .delay) i j)
+      on : (j : ℕ) → lineFrom 37 (chipX2 ch) i j line ≡ lineAlong ch (i + j)
+      on j =
+          rw line-so-far
+          (ap (λ (s : ℕ). lineFrom 37 (chipX2 ch) s j (lineAlong ch i)) (sym (zero-add i)) ∙ sym (line-add 37 (chipX2 ch) 0 i j (ch .delay)))
 
       pub block-line : (k : ℕ) → k ≤ 64 → (line * 2 ^ k + x2 / 2 ^ (64 - k)) % 2 ^ 37 ≡ lineAlong ch (i + k)
       block-line k h =
-          sym (line-is (λ m. chipX2 ch (i + m)) line x2 64 line-in x2-in (lit≤ tt) x2-word k h) ∙ on k
+          sym (line-is (chipX2 ch) i line x2 64 line-in x2-in (lit≤ tt) x2-word k h) ∙ on k
 
       pub block-tells : (j : ℕ) → j < 64 → bitXor x1 (delayedWord line x2 (ch .prn)) / 2 ^ (63 - j) % 2 ≡ chipAlong ch (i + j)
       block-tells j h =
-          sum-tells 64 x1 (delayedWord line x2 (ch .prn)) (λ m. chipX1 ch (i + m)) (λ m. stage (ch .prn) (lineBy (λ m. chipX2 ch (i + m)) line m))
+          sum-tells 64 x1 (delayedWord line x2 (ch .prn)) (λ m. chipX1 ch (i + m)) (λ m. stage (ch .prn) (lineFrom 37 (chipX2 ch) i m line))
           (subst (λ (w : ℕ). Tells w 64 (λ m. chipX1 ch (i + m))) (sym x1-is) x1-tells)
-          (delayed-tells (λ m. chipX2 ch (i + m)) line x2 64 line-in x2-in (lit≤ tt) x2-word (ch .prn) (run .prn .first) (run .prn .last)) j h
+          (delayed-tells (chipX2 ch) i line x2 64 line-in x2-in (lit≤ tt) x2-word (ch .prn) (run .prn .first) (run .prn .last)) j h
           ∙ ap (λ (b : ℕ). (chipX1 ch (i + j) + stage (ch .prn) b) % 2) (on j)
           ∙ sums (stage 12 (aheadBy x1a (ch .first) (i + j) .register) + stage 12 (aheadBy x1b (ch .second) (i + j) .register)) (stage (ch .prn) (lineAlong ch (i + j)))
         where

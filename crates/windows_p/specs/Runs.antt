@@ -1,6 +1,6 @@
 -- The runs of P, for the contracts of inner functions: `proofs/AlongP.antt` shows a run to be so many steps of the machine's.
 -- Assumes nothing.
-use Prim.Native.Nat.{ℕ, _+_, _-_, _%_, _^_, _<_, _≤_}
+use Prim.Native.Nat.{ℕ, _+_, _%_, _^_, _<_, _≤_}
 use mathlib.Core.Path.{_≡_}
 use mathlib.Core.List.{List}
 use Rattle.registers.specs.Times.{times}
@@ -8,11 +8,11 @@ use Rattle.registers.specs.Register.{stage, shiftX1A, shiftX1B, shiftX2A, shift
 use Rattle.starts.specs.Starts.{Listed, startX1A, startX1B, startX2A, startX2B}
 use Rattle.machine.specs.Generators.{Kind}
 use Rattle.machine.specs.Signals.{x1a, x1b, x2a, x2b, weekP}
+use Rattle.machine.specs.Inner.{lineFrom}
 use Rattle.machine.specs.declared.Generator.{Generator}
 use Rattle.machine.specs.declared.Channel.{Channel}
 use Rattle.sequences.specs.Sequences.{sequence, wordIn}
 use Rattle.stretches.specs.Stretches.{stretch, aheadBy, wordOf, all}
-use Rattle.delay_lines.specs.Lines.{lineBy}
 
 -- the tables of P
 pub record Tables (a b c d : List ℕ) : Type 0 where
@@ -57,7 +57,7 @@ abbrev pub chipX2 : Channel → ℕ → ℕ
 chipX2 ch j = (stage 12 (aheadBy x2a (ch .third) j .register) + stage 12 (aheadBy x2b (ch .fourth) j .register)) % 2
 
 abbrev pub lineAlong : Channel → ℕ → ℕ
-lineAlong ch j = lineBy (chipX2 ch) (ch .delay) j
+lineAlong ch j = lineFrom 37 (chipX2 ch) 0 j (ch .delay)
 
 abbrev pub chipAlong : Channel → ℕ → ℕ
 chipAlong ch j =

@@ -8,8 +8,8 @@ use lib.Dec.{lit≤}
 use lib.Bits.{bitXor}
 use borrow.Author.Needs.{needs}
 use Rattle.digits.proofs.Rows.{Filled, begun, part-more, ended}
+use Rattle.machine.specs.Inner.{lineFrom}
 use Rattle.delay_lines.proofs.DelayedWords.{line-anew}
-use Rattle.delay_lines.specs.Lines.{lineBy}
 use Rattle.windows_p.specs.Runs.{lineAlong, chipAlong}
 use Rattle.windows_p.proofs.Blocks.{first-within, second-within, third-within, fourth-within, block-tells, block-line}
 use Rattle.windows_p.proofs.write_words.Statement.{statement}
@@ -27,7 +27,7 @@ mul-whole : tie.Need-mul-whole Inv-loop μ-loop
 mul-whole c = omega arith
 
 loop-holds : tie.Need-loop-holds Inv-loop μ-loop
-unfolding lineBy
+unfolding lineFrom
 loop-holds c =
     (begun _ _ _ (omega (arith, (c .before .before .before .before .before .before .pre) .1 .1 .1 .1)), refl, refl)
 
