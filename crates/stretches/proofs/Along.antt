@@ -1,4 +1,5 @@
 -- A channel of any signal in steps in which each of its generators goes along a stretch.
+--     chips-row  the chips of n steps, given each of them
 --     at-is      so many steps bring it there
 --     chips-are  the chips of those steps
 -- Assumes nothing.
@@ -17,7 +18,7 @@ use Rattle.machine.specs.Machine.{nextEpoch, atWeekEnd, nextLine, stepWith, ste
 use Rattle.machine.specs.declared.Generator.{Generator}
 use Rattle.machine.specs.declared.Channel.{Channel}
 use Rattle.machine.proofs.Advance.{advance-none, advance-last}
-use Rattle.machine.proofs.Chips.{chips-one, chips-add}
+use Rattle.machine.proofs.Chips.{chips-add}
 use Rattle.machine.proofs.Numbered.{step-is, chip-is}
 use Rattle.digits.specs.Digits.{row}
 use Rattle.stretches.proofs.LawOfRuns.{Goes}
@@ -29,6 +30,14 @@ same-epoch last (suc c) epoch = simp (lt-ltb 0 (suc c) (omega arith), ne-eqb (su
 
 pub next-place : (last n : ℕ) → n < last → n + 1 ≡ upTo last n
 next-place last n h = simp (ne-eqb n last (λ e. omega (arith, e, h)))
+
+pub chips-row : (ch : Channel) (x : ℕ → ℕ) (n : ℕ) → ((j : ℕ) → j < n → chip (advance j ch) ≡ x j) → chips n ch ≡ row x n
+unfolding chips row
+chips-row ch x zero each = refl
+chips-row ch x (suc n) each =
+    ap (λ (k : ℕ). chips k ch) (sym (add-one n))
+    ∙ chips-add n 1 ch
+    ∙ ap₂ (λ (l : List ℕ) (b : ℕ). l ++ (b ∷ [])) (chips-row ch x n (λ j h. each j (omega (arith, h)))) (each n (omega arith))
 
 -- how a channel of a signal goes for n steps: its generators, of which the first stays in its cycle, and its delay line
 pub record Along (s : Signal) (n : ℕ) (ch : Channel) (first second third fourth : ℕ → Generator) (line : ℕ → ℕ) : Type 0 where
@@ -121,10 +130,4 @@ module _ (s : Signal) (n : ℕ) (ch : Channel) (first second third fourth : ℕ 
         advance-last j ch ∙ ap step (at-is j (omega (arith, h))) ∙ step-is (at j) named ∙ at-next j (omega (arith, h))
 
     pub chips-are : (j : ℕ) → j ≤ n → chips j ch ≡ row (λ i. s .chip (at i)) j
-    unfolding chips row
-    chips-are zero h = refl
-    chips-are (suc j) h =
-        ap (λ (k : ℕ). chips k ch) (sym (add-one j))
-        ∙ chips-add j 1 ch
-        ∙ ap₂ (λ (l m : List ℕ). l ++ m) (chips-are j (omega (arith, h)))
-        (ap (chips 1) (at-is j (omega (arith, h))) ∙ chips-one (at j) ∙ ap (λ (b : ℕ). b ∷ []) (chip-is (at j) named))
+    chips-are j h = chips-row ch (λ i. s .chip (at i)) j (λ i l. ap chip (at-is i (omega (arith, h, l))) ∙ chip-is (at i) named)

@@ -25,7 +25,7 @@ use Rattle.machine.specs.declared.Mode.{Mode}
 use Rattle.machine.specs.declared.Mode.the-variants.{Running, Held}
 use Rattle.machine.specs.declared.Generator.{Generator}
 use Rattle.sequences.specs.Sequences.{wordIn, Tells}
-use Rattle.stretches.specs.Stretches.{stretchIn, stretch, aheadBy, all, wordOf, Within, Tabled}
+use Rattle.stretches.specs.Stretches.{stretchIn, stretch, aheadBy, Fits, all, wordOf, wordAt, Within, Tabled}
 use Rattle.stretches.proofs.Arrivals.{RunsOn}
 
 -- ---- steps
@@ -87,8 +87,8 @@ module _ (seq : List ℕ) (from s : ℕ) (k : Kind) (last : ℕ) (t : Tabled seq
       ∙ ap (times f (n + i)) (sym fit))
   in-mode (Held h) r p c n fit room i l = all-tells (stage s r) (stage-lt s r) i l
 
-  pub law-of-runs : (g : Generator) (n : ℕ) → g .register ≡ times (k .shift) (g .phase) (k .start) → (g .mode ≡ Running → g .phase + n ≤ last)
-      → Tells (wordOf (g .mode) (wordIn seq (from + g .phase + n)) (all (stage s (g .register)))) 64 (λ i. stage s (aheadBy k g (n + i) .register))
+  pub law-of-runs : (g : Generator) (n : ℕ) → Fits k g → (g .mode ≡ Running → g .phase + n ≤ last)
+      → Tells (wordAt s g seq from n) 64 (λ i. stage s (aheadBy k g (n + i) .register))
   law-of-runs g n fit room = in-mode (g .mode) (g .register) (g .phase) (g .cycles) n fit room
 
 -- ---- where the words stand

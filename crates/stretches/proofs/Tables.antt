@@ -25,7 +25,7 @@ use Rattle.machine.specs.declared.Mode.the-variants.{Running, Held}
 use Rattle.machine.specs.declared.Generator.{Generator}
 use Rattle.sequences.specs.Sequences.{sequence, wordIn, Tells}
 use Rattle.sequences.proofs.Chips.{word-tells, register-is, inner-stage}
-use Rattle.stretches.specs.Stretches.{stretch, ahead, aheadBy, wordOf, all, Within, Tabled}
+use Rattle.stretches.specs.Stretches.{stretch, ahead, aheadBy, Fits, wordAt, Within, Tabled}
 use Rattle.stretches.proofs.LawOfRuns.{law-of-runs, room, within}
 
 pub table-length : (f : ℕ → ℕ) (s n r : ℕ) → length (sequence f s n r) ≡ n
@@ -86,14 +86,13 @@ module _ (k : Kind) (seq : List ℕ) (from s last : ℕ)
     by-mode (Held h) r p c n fit near = refl
 
     -- the register that is read is that of so many shifts
-    pub after-is : (g : Generator) (n : ℕ) → g .register ≡ times (k .shift) (g .phase) (k .start) → 0 < n → n ≤ stretch last g
+    pub after-is : (g : Generator) (n : ℕ) → Fits k g → 0 < n → n ≤ stretch last g
         → ahead (wordIn seq (from + g .phase + n) / 2 ^ (64 - s)) n g ≡ aheadBy k g n
     after-is g n fit some long =
         by-mode (g .mode) (g .register) (g .phase) (g .cycles) n fit (room g last n n some long (omega arith))
 
     -- the test of a register, where it passes
-    pub fits-is : (g : Generator) → g .phase ≤ last → eqb (wordIn seq (from + g .phase) / 2 ^ (64 - s)) (g .register) ≡ true
-        → g .register ≡ times (k .shift) (g .phase) (k .start)
+    pub fits-is : (g : Generator) → g .phase ≤ last → eqb (wordIn seq (from + g .phase) / 2 ^ (64 - s)) (g .register) ≡ true → Fits k g
     fits-is g h t = sym (eqb-true _ _ t) ∙ registers (g .phase) h
 
 -- ---- the words of a stretch
@@ -104,6 +103,5 @@ module _ (k : Kind) (seq : List ℕ) (from s last : ℕ) (t : Tabled seq from s 
     pub words-within : Within g from i (length seq)
     words-within = within g from last n i (length seq) some long before (omega (arith, few, before)) (t .long)
 
-    pub words-tell : g .register ≡ times (k .shift) (g .phase) (k .start)
-        → Tells (wordOf (g .mode) (wordIn seq (from + g .phase + i)) (all (stage s (g .register)))) 64 (λ j. stage s (aheadBy k g (i + j) .register))
+    pub words-tell : Fits k g → Tells (wordAt s g seq from i) 64 (λ j. stage s (aheadBy k g (i + j) .register))
     words-tell fits = law-of-runs seq from s k last t g i fits (λ m. omega (arith, room g last n i some long before m))

@@ -47,6 +47,10 @@ ahead shifted n g =
 abbrev pub aheadBy : Kind → Generator → ℕ → Generator
 aheadBy k g n = ahead (times (k .shift) n (g .register)) n g
 
+-- a generator's register is the one of its phase
+abbrev pub Fits : Kind → Generator → Type 0
+Fits k g = g .register ≡ times (k .shift) (g .phase) (k .start)
+
 -- ---- its chips as words
 
 -- 64 times the same digit
@@ -57,6 +61,10 @@ all b = b * 0xffffffffffffffff
 abbrev pub wordOf : Mode → ℕ → ℕ → ℕ
 wordOf Running word same = word
 wordOf (Held h) word same = same
+
+-- 64 chips of a generator's stage s, n steps on, by a table that begins `from` chips before phase 0
+abbrev pub wordAt : ℕ → Generator → List ℕ → ℕ → ℕ → ℕ
+wordAt s g words from n = wordOf (g .mode) (wordIn words (from + g .phase + n)) (all (stage s (g .register)))
 
 -- n steps on, a running generator is within a table of so many words that begins `from` chips before phase 0, and a held one is still held
 pub record Within (g : Generator) (from n words : ℕ) : Type 0 where

@@ -4,9 +4,8 @@ ghost use mathlib.Core.Path.{_≡_};
 ghost use Prim.Native.Nat.{_+_, _-_, _/_, _<_, _≤_, _^_};
 ghost use lib.ListN.{length};
 ghost use lib.Dec.{eqb};
-ghost use Rattle.registers.specs.Register.{stage};
 ghost use Rattle.sequences.specs.Sequences.{wordIn};
-ghost use Rattle.stretches.specs.Stretches.{stretch, Within, wordOf, all, ahead};
+ghost use Rattle.stretches.specs.Stretches.{stretch, Within, wordAt, ahead};
 use machine::Generator;
 use machine::Mode;
 
@@ -56,7 +55,7 @@ pub fn word_of(g: Generator, k: u32, sequence: &[u64], from: usize, n: usize) ->
     requires { ⌜ Within g from n (length (now sequence)) ⌝ }
     requires { ⌜ 1 ≤ k ⌝ }
     requires { ⌜ k ≤ 32 ⌝ }
-    ensures { λ r. ⌜ r ≡ wordOf (g .mode) (wordIn (now (sequence .entry)) (from + g .phase + n)) (all (stage k (g .register))) ⌝ }
+    ensures { λ r. ⌜ r ≡ wordAt k g (now (sequence .entry)) from n ⌝ }
 {
     let mode = g.mode;
     match mode {

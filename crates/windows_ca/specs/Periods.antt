@@ -8,23 +8,20 @@ use Rattle.registers.specs.Times.{times}
 use Rattle.registers.specs.Register.{stage, shiftG1, shiftG2}
 use Rattle.starts.specs.Starts.{startG1, startG2}
 use Rattle.starts.specs.declared.Stages.{Stages}
-use Rattle.machine.specs.Generators.{Kind}
 use Rattle.machine.specs.Signals.{g1, g2}
 use Rattle.machine.specs.declared.Mode.the-variants.{Running}
 use Rattle.machine.specs.declared.Generator.{Generator}
 use Rattle.machine.specs.declared.Channel.{Channel}
 use Rattle.sequences.specs.Sequences.{sequence}
 use Rattle.digits.specs.Digits.{row}
+use Rattle.stretches.specs.Stretches.{Fits}
 
 -- the tables of C/A
 pub record Tables (a b : List ℕ) : Type 0 where
   pub table-g1 : a ≡ sequence shiftG1 10 34 startG1
   pub table-g2 : b ≡ sequence shiftG2 10 34 startG2
 
--- a generator's register is the one of its phase
-abbrev pub Fits : Kind → Generator → Type 0
-Fits k g = g .register ≡ times (k .shift) (g .phase) (k .start)
-
+-- each register is the one of its phase
 pub record Fitting (ch : Channel) : Type 0 where
   pub first-fits : Fits g1 (ch .first)
   pub second-fits : Fits g2 (ch .second)

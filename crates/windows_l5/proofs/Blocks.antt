@@ -14,10 +14,10 @@ use Rattle.starts.specs.Starts.{startXA}
 use Rattle.machine.specs.Signals.{xa, xb}
 use Rattle.machine.specs.declared.Channel.{Channel}
 use Rattle.machine.proofs.Tests.{chosen}
-use Rattle.stretches.specs.Stretches.{aheadBy, Within, Tabled}
+use Rattle.stretches.specs.Stretches.{aheadBy, wordAt, Within, Tabled}
 use Rattle.stretches.proofs.LawOfRuns.{sum-tells}
 use Rattle.stretches.proofs.Tables.{from-start, from-earlier, words-within, words-tell}
-use Rattle.windows_l5.specs.Runs.{Advanced, Tables, Fitting, Run, wordAt, chipAlong}
+use Rattle.windows_l5.specs.Runs.{Advanced, Tables, Fitting, Run, chipAlong}
 
 -- the last phase of a cycle, cut short or not
 pub last-xa : (c : ℕ) → xa .last c ≤ 8189
@@ -47,9 +47,9 @@ module _ (a b : List ℕ) (t : Tables a b) (from start : ℕ) (ad : Advanced fro
         (omega (arith, run .few, run .second-phase, ad .from-in)) (run .second-stretch) before
 
     pub block-tells : Fitting start ch → (j : ℕ) → j < 64
-        → bitXor (wordAt (ch .first) a 0 i) (wordAt (ch .second) b from i) / 2 ^ (63 - j) % 2 ≡ chipAlong start ch (i + j)
+        → bitXor (wordAt 13 (ch .first) a 0 i) (wordAt 13 (ch .second) b from i) / 2 ^ (63 - j) % 2 ≡ chipAlong start ch (i + j)
     block-tells fit =
-        sum-tells 64 (wordAt (ch .first) a 0 i) (wordAt (ch .second) b from i) (λ j. stage 13 (aheadBy xa (ch .first) (i + j) .register))
+        sum-tells 64 (wordAt 13 (ch .first) a 0 i) (wordAt 13 (ch .second) b from i) (λ j. stage 13 (aheadBy xa (ch .first) (i + j) .register))
         (λ j. stage 13 (aheadBy (xb start) (ch .second) (i + j) .register))
         (words-tell xa a 0 13 (xa .last (ch .first .cycles)) tabled-xa (ch .first) n i (run .some) (omega (arith, run .few, run .first-phase)) (run .first-stretch) before
         (fit .first-fits))

@@ -7,10 +7,9 @@ use Rattle.registers.specs.Times.{times}
 use Rattle.registers.specs.Register.{stage, shiftXA, shiftXB}
 use Rattle.starts.specs.Starts.{startXA}
 use Rattle.machine.specs.Signals.{xa, xb, weekL5}
-use Rattle.machine.specs.declared.Generator.{Generator}
 use Rattle.machine.specs.declared.Channel.{Channel}
-use Rattle.sequences.specs.Sequences.{sequence, wordIn}
-use Rattle.stretches.specs.Stretches.{stretch, aheadBy, wordOf, all}
+use Rattle.sequences.specs.Sequences.{sequence}
+use Rattle.stretches.specs.Stretches.{stretch, aheadBy, Fits}
 
 -- XB's start is so many chips on from all ones
 pub record Advanced (from start : ℕ) : Type 0 where
@@ -24,8 +23,8 @@ pub record Tables (a b : List ℕ) : Type 0 where
 
 -- each register is the one of its phase
 pub record Fitting (start : ℕ) (ch : Channel) : Type 0 where
-  pub first-fits : ch .first .register ≡ times (xa .shift) (ch .first .phase) (xa .start)
-  pub second-fits : ch .second .register ≡ times (xb start .shift) (ch .second .phase) (xb start .start)
+  pub first-fits : Fits xa (ch .first)
+  pub second-fits : Fits (xb start) (ch .second)
 
 -- n steps are a stretch of each generator, and the week has not ended
 pub record Run (start n : ℕ) (ch : Channel) : Type 0 where
@@ -36,10 +35,6 @@ pub record Run (start n : ℕ) (ch : Channel) : Type 0 where
   pub first-phase : ch .first .phase < 65536
   pub second-phase : ch .second .phase < 65536
   pub week : ch .place + n < weekL5
-
--- 64 chips of a generator of 13 stages, n steps on, by a table that begins `from` chips before phase 0
-abbrev pub wordAt : Generator → List ℕ → ℕ → ℕ → ℕ
-wordAt g words from n = wordOf (g .mode) (wordIn words (from + g .phase + n)) (all (stage 13 (g .register)))
 
 -- the chip j steps on in a run
 abbrev pub chipAlong : ℕ → Channel → ℕ → ℕ

@@ -12,9 +12,9 @@ ghost use Rattle.machine.specs.Signals.{fromL5};
 ghost use Rattle.machine.specs.Machine.{advance, chips};
 ghost use Rattle.machine.specs.Ranged.{RangedAs};
 ghost use Rattle.digits.specs.Digits.{row, bytesOf};
-ghost use Rattle.stretches.specs.Stretches.{Within};
+ghost use Rattle.stretches.specs.Stretches.{Within, wordAt};
 ghost use Rattle.stepped.specs.Inner.{Of};
-ghost use Rattle.windows_l5.specs.Runs.{Advanced, Tables, Fitting, Run, wordAt, chipAlong};
+ghost use Rattle.windows_l5.specs.Runs.{Advanced, Tables, Fitting, Run, chipAlong};
 use machine::Channel;
 use machine::Generator;
 
@@ -42,7 +42,7 @@ fn advance_q5(prn: u32) -> u32
 fn word_of(a: Generator, b: Generator, xa: &[u64], xb: &[u64], from: usize, n: usize) -> u64
     requires { ⌜ Within a 0 n (length (now xa)) ⌝ }
     requires { ⌜ Within b from n (length (now xb)) ⌝ }
-    ensures { λ r. ⌜ r ≡ bitXor (wordAt a (now (xa .entry)) 0 n) (wordAt b (now (xb .entry)) from n) ⌝ }
+    ensures { λ r. ⌜ r ≡ bitXor (wordAt 13 a (now (xa .entry)) 0 n) (wordAt 13 b (now (xb .entry)) from n) ⌝ }
 {
     let first = stretches::word_of(a, 13, xa, 0, n);
     let second = stretches::word_of(b, 13, xb, from, n);

@@ -18,12 +18,12 @@ use Rattle.machine.specs.Inner.{lineFrom}
 use Rattle.machine.specs.declared.Channel.{Channel}
 use Rattle.machine.proofs.Lines.{line-lt, line-add}
 use Rattle.sequences.specs.Sequences.{sequence, Tells}
-use Rattle.stretches.specs.Stretches.{aheadBy, Within, Tabled}
+use Rattle.stretches.specs.Stretches.{aheadBy, wordAt, Within, Tabled}
 use Rattle.stretches.proofs.LawOfRuns.{sum-tells}
 use Rattle.stretches.proofs.Tables.{from-start, words-within, words-tell}
 use Rattle.delay_lines.specs.Lines.{delayedWord}
 use Rattle.delay_lines.proofs.DelayedWords.{line-is, delayed-tells}
-use Rattle.windows_p.specs.Runs.{Tables, Fitting, Run, wordAt, chipX2, lineAlong, chipAlong}
+use Rattle.windows_p.specs.Runs.{Tables, Fitting, Run, chipX2, lineAlong, chipAlong}
 
 -- ---- the tables
 
@@ -59,15 +59,15 @@ module _ (a b c d : List ℕ) (t : Tables a b c d) (n i : ℕ) (ch : Channel) (r
 
   -- the words of X1 and X2
   abbrev pub wordX1 : ℕ
-  wordX1 = bitXor (wordAt (ch .first) a i) (wordAt (ch .second) b i)
+  wordX1 = bitXor (wordAt 12 (ch .first) a 0 i) (wordAt 12 (ch .second) b 0 i)
 
   abbrev pub wordX2 : ℕ
-  wordX2 = bitXor (wordAt (ch .third) c i) (wordAt (ch .fourth) d i)
+  wordX2 = bitXor (wordAt 12 (ch .third) c 0 i) (wordAt 12 (ch .fourth) d 0 i)
 
   module _ (fit : Fitting ch) where
     x1-tells : Tells wordX1 64 (λ j. chipX1 ch (i + j))
     x1-tells =
-        sum-tells 64 (wordAt (ch .first) a i) (wordAt (ch .second) b i) _ _
+        sum-tells 64 (wordAt 12 (ch .first) a 0 i) (wordAt 12 (ch .second) b 0 i) _ _
         (words-tell x1a a 0 12 4091 (tabled x1a a (t .table-x1a) 4091 (lit≤ tt)) (ch .first) n i (run .some)
         (omega (arith, run .few, run .first-phase)) (run .first-stretch) before (fit .first-fits))
         (words-tell x1b b 0 12 4092 (tabled x1b b (t .table-x1b) 4092 (lit≤ tt)) (ch .second) n i (run .some)
@@ -75,7 +75,7 @@ module _ (a b c d : List ℕ) (t : Tables a b c d) (n i : ℕ) (ch : Channel) (r
 
     x2-tells : Tells wordX2 64 (λ j. chipX2 ch (i + j))
     x2-tells =
-        sum-tells 64 (wordAt (ch .third) c i) (wordAt (ch .fourth) d i) _ _
+        sum-tells 64 (wordAt 12 (ch .third) c 0 i) (wordAt 12 (ch .fourth) d 0 i) _ _
         (words-tell x2a c 0 12 4091 (tabled x2a c (t .table-x2a) 4091 (lit≤ tt)) (ch .third) n i (run .some)
         (omega (arith, run .few, run .third-phase)) (run .third-stretch) before (fit .third-fits))
         (words-tell x2b d 0 12 4092 (tabled x2b d (t .table-x2b) 4092 (lit≤ tt)) (ch .fourth) n i (run .some)

@@ -3,16 +3,13 @@
 use Prim.Native.Nat.{ℕ, _+_, _%_, _^_, _<_, _≤_}
 use mathlib.Core.Path.{_≡_}
 use mathlib.Core.List.{List}
-use Rattle.registers.specs.Times.{times}
 use Rattle.registers.specs.Register.{stage, shiftX1A, shiftX1B, shiftX2A, shiftX2B}
 use Rattle.starts.specs.Starts.{Listed, startX1A, startX1B, startX2A, startX2B}
-use Rattle.machine.specs.Generators.{Kind}
 use Rattle.machine.specs.Signals.{x1a, x1b, x2a, x2b, weekP}
 use Rattle.machine.specs.Inner.{lineFrom}
-use Rattle.machine.specs.declared.Generator.{Generator}
 use Rattle.machine.specs.declared.Channel.{Channel}
-use Rattle.sequences.specs.Sequences.{sequence, wordIn}
-use Rattle.stretches.specs.Stretches.{stretch, aheadBy, wordOf, all}
+use Rattle.sequences.specs.Sequences.{sequence}
+use Rattle.stretches.specs.Stretches.{stretch, aheadBy, Fits}
 
 -- the tables of P
 pub record Tables (a b c d : List ℕ) : Type 0 where
@@ -21,10 +18,7 @@ pub record Tables (a b c d : List ℕ) : Type 0 where
   pub table-x2a : c ≡ sequence shiftX2A 12 65 startX2A
   pub table-x2b : d ≡ sequence shiftX2B 12 65 startX2B
 
--- a generator's register is the one of its phase
-abbrev pub Fits : Kind → Generator → Type 0
-Fits k g = g .register ≡ times (k .shift) (g .phase) (k .start)
-
+-- each register is the one of its phase
 pub record Fitting (ch : Channel) : Type 0 where
   pub first-fits : Fits x1a (ch .first)
   pub second-fits : Fits x1b (ch .second)
@@ -46,10 +40,6 @@ pub record Run (n : ℕ) (ch : Channel) : Type 0 where
   pub week : ch .place + n < weekP
   pub prn : Listed 37 (ch .prn)
   pub line : ch .delay < 2 ^ 37
-
--- 64 chips of a generator of 12 stages, n steps on
-abbrev pub wordAt : Generator → List ℕ → ℕ → ℕ
-wordAt g words n = wordOf (g .mode) (wordIn words (0 + g .phase + n)) (all (stage 12 (g .register)))
 
 -- ---- the run
 

@@ -10,9 +10,9 @@ ghost use Rattle.machine.specs.Signals.{signalP};
 ghost use Rattle.machine.specs.Machine.{advance, chips};
 ghost use Rattle.machine.specs.Ranged.{RangedAs};
 ghost use Rattle.digits.specs.Digits.{row, bytesOf};
-ghost use Rattle.stretches.specs.Stretches.{Within};
+ghost use Rattle.stretches.specs.Stretches.{Within, wordAt};
 ghost use Rattle.stepped.specs.Inner.{Of};
-ghost use Rattle.windows_p.specs.Runs.{Tables, Fitting, Run, wordAt, lineAlong, chipAlong};
+ghost use Rattle.windows_p.specs.Runs.{Tables, Fitting, Run, lineAlong, chipAlong};
 use machine::Channel;
 use machine::Generator;
 
@@ -22,7 +22,7 @@ use machine::Generator;
 fn both(a: Generator, ta: &[u64], b: Generator, tb: &[u64], n: usize) -> u64
     requires { ⌜ Within a 0 n (length (now ta)) ⌝ }
     requires { ⌜ Within b 0 n (length (now tb)) ⌝ }
-    ensures { λ r. ⌜ r ≡ bitXor (wordAt a (now (ta .entry)) n) (wordAt b (now (tb .entry)) n) ⌝ }
+    ensures { λ r. ⌜ r ≡ bitXor (wordAt 12 a (now (ta .entry)) 0 n) (wordAt 12 b (now (tb .entry)) 0 n) ⌝ }
 {
     let first = stretches::word_of(a, 12, ta, 0, n);
     let second = stretches::word_of(b, 12, tb, 0, n);
