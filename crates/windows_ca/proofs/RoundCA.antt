@@ -8,36 +8,38 @@
 -- Assumes nothing.
 use Prim.Native.Nat.{ℕ, zero, suc, _+_, _-_, _*_, _/_, _%_, _^_, _<_, _≤_}
 use mathlib.Core.Bool.{true, false}
-use mathlib.Core.Path.{Path, _≡_, refl, sym, ap, ap₂, _∙_}
-use mathlib.Core.List.{List, [], _∷_, _++_}
+use mathlib.Core.Path.{_≡_, sym, ap, ap₂, _∙_}
+use mathlib.Core.List.{List}
 use mathlib.Core.Logic.{⊎-elim}
 use native.Mathlib.Nat.{add-zero, eq-or-lt-of-le}
-use native.Mathlib.Numerals.{add-one}
 use native.Mathlib.Omega.{arith}
 use lib.Dec.{lit≤, lit<, eqb}
 use lib.ListN.{length}
 use borrow.Author.Tests.{ne-eqb, eq-eqb}
 use Rattle.registers.specs.Times.{times}
 use Rattle.registers.specs.Register.{stage, shift, shiftG1, shiftG2, tapsG1, tapsG2}
+use Rattle.registers.proofs.Repeat.{times-round}
 use Rattle.starts.specs.Starts.{stagesOf, startG1, startG2}
 use Rattle.starts.specs.declared.Stages.{Stages}
 use Rattle.starts.proofs.Ranges.{first-in, second-in}
+use Rattle.starts.proofs.Rounds.{g1-round, g2-round}
 use Rattle.machine.specs.Generators.{upTo, stepGenerator}
 use Rattle.machine.specs.Signals.{signalCA, g1, g2, weekCA}
-use Rattle.machine.specs.Machine.{nextLine, atWeekEnd, stepAs, step, advance, chips}
+use Rattle.machine.specs.Machine.{nextLine, atWeekEnd, stepAs, step, chip, advance, chips}
 use Rattle.machine.specs.Ranged.{RangedAs}
+use Rattle.machine.specs.Inner.{placed}
 use Rattle.machine.specs.declared.Generator.{Generator}
 use Rattle.machine.specs.declared.Channel.{Channel}
 use Rattle.machine.proofs.Advance.{advance-none, advance-last}
-use Rattle.machine.proofs.Chips.{chips-one, chips-add}
 use Rattle.machine.proofs.Numbered.{step-is, chip-is}
 use Rattle.machine.proofs.Running.{lacking-stays}
 use Rattle.sequences.specs.Sequences.{sequence, wordIn}
 use Rattle.digits.specs.Digits.{row}
+use Rattle.stretches.proofs.Along.{chips-row}
 use Rattle.stretches.proofs.Tables.{table-length, register-there, fits-is}
 use Rattle.stepped.specs.Inner.{Of}
 use Rattle.windows_ca.specs.Periods.{Tables, Fitting, Readable, chipOn, inCycle}
-use Rattle.windows_ca.proofs.RoundG.{comes-again, round, g1-round, g2-round, on, begins, goes-on}
+use Rattle.windows_ca.proofs.RoundG.{comes-again, on, begins, goes-on}
 
 -- ---- the week
 
@@ -60,18 +62,7 @@ no-line x line h = omega (arith, h)
 module _ (ch : Channel) (of : Of signalCA ch) (fit : Fitting ch) where
   -- j steps on
   abbrev at : ℕ → Channel
-  at j =
-      record {
-        signal = ch .signal;
-        prn = ch .prn;
-        place = (ch .place + j) % weekCA;
-        epoch = ch .epoch;
-        delay = ch .delay;
-        first = on shiftG1 startG1 (ch .first .phase + j);
-        second = on shiftG2 startG2 (ch .second .phase + j);
-        third = ch .third;
-        fourth = ch .fourth;
-      }
+  at j = placed ((ch .place + j) % weekCA) (on shiftG1 startG1 (ch .first .phase + j)) (on shiftG2 startG2 (ch .second .phase + j)) ch
 
   at-start : ch ≡ at 0
   at-start =
@@ -81,18 +72,7 @@ module _ (ch : Channel) (of : Of signalCA ch) (fit : Fitting ch) where
       = begins shiftG1 startG1 (ch .first) (r .first-in) (fit .first-fits) ∙ ap (on shiftG1 startG1) (sym (add-zero (ch .first .phase))) in
       let second : ch .second ≡ on shiftG2 startG2 (ch .second .phase + 0)
       = begins shiftG2 startG2 (ch .second) (r .second-in) (fit .second-fits) ∙ ap (on shiftG2 startG2) (sym (add-zero (ch .second .phase))) in
-      λ i.
-      record {
-        signal = ch .signal;
-        prn = ch .prn;
-        place = place i;
-        epoch = ch .epoch;
-        delay = ch .delay;
-        first = first i;
-        second = second i;
-        third = ch .third;
-        fourth = ch .fourth;
-      }
+      λ i. placed (place i) (first i) (second i) ch
 
   at-next : (j : ℕ) → stepAs (signalCA (ch .prn)) (at j) ≡ at (suc j)
   at-next j =
@@ -129,13 +109,7 @@ module _ (ch : Channel) (of : Of signalCA ch) (fit : Fitting ch) where
     chip-at j = rw stages-are
 
     pub chips-on : (j : ℕ) → chips j ch ≡ row (chipOn stages ch) j
-    unfolding chips row
-    chips-on zero = refl
-    chips-on (suc j) =
-        ap (λ (k : ℕ). chips k ch) (sym (add-one j))
-        ∙ chips-add j 1 ch
-        ∙ ap₂ (λ (l m : List ℕ). l ++ m) (chips-on j)
-        (ap (chips 1) (at-is j) ∙ chips-one (at j) ∙ ap (λ (b : ℕ). b ∷ []) (chip-is (at j) (of .named) ∙ chip-at j))
+    chips-on j = chips-row ch (chipOn stages ch) j (λ i h. ap chip (at-is i) ∙ chip-is (at i) (of .named) ∙ chip-at i)
 
 pub chip-again : (stages : Stages) (ch : Channel) (j : ℕ) → chipOn stages ch (j + 1023) ≡ chipOn stages ch j
 chip-again stages ch j =
@@ -192,48 +166,11 @@ module _ (a b : List ℕ) (t : Tables a b) where
     pub channel-is : (first second : Generator)
         → first ≡ inCycle (wordIn a ((ch .first .phase + n) % 1023) / 2 ^ (64 - 10)) ((ch .first .phase + n) % 1023)
         → second ≡ inCycle (wordIn b ((ch .second .phase + n) % 1023) / 2 ^ (64 - 10)) ((ch .second .phase + n) % 1023)
-        → record {
-          signal = ch .signal;
-          prn = ch .prn;
-          place = (ch .place + n) % weekCA;
-          epoch = ch .epoch;
-          delay = ch .delay;
-          first = first;
-          second = second;
-          third = ch .third;
-          fourth = ch .fourth;
-        }
-        ≡ advance n ch
+        → placed ((ch .place + n) % weekCA) first second ch ≡ advance n ch
     channel-is first second first-is second-is =
         let one = first-is ∙ read shiftG1 startG1 g1-round a registers-g1 (ch .first .phase + n) in
         let two = second-is ∙ read shiftG2 startG2 g2-round b registers-g2 (ch .second .phase + n) in
-        let all : Path Channel
-        (record {
-          signal = ch .signal;
-          prn = ch .prn;
-          place = (ch .place + n) % weekCA;
-          epoch = ch .epoch;
-          delay = ch .delay;
-          first = first;
-          second = second;
-          third = ch .third;
-          fourth = ch .fourth;
-        })
-        (at ch of fit n)
-        = λ i.
-        record {
-          signal = ch .signal;
-          prn = ch .prn;
-          place = (ch .place + n) % weekCA;
-          epoch = ch .epoch;
-          delay = ch .delay;
-          first = one i;
-          second = two i;
-          third = ch .third;
-          fourth = ch .fourth;
-        }
-        in
-        all ∙ sym (at-is ch of fit n)
+        ap₂ (λ (g h : Generator). placed ((ch .place + n) % weekCA) g h ch) one two ∙ sym (at-is ch of fit n)
       where
         read : (f : ℕ → ℕ) (start : ℕ) (once : times f 1023 start ≡ start) (seq : List ℕ)
             → ((q : ℕ) → q ≤ 1022 → wordIn seq (0 + q) / 2 ^ (64 - 10) ≡ times f q start)
@@ -241,4 +178,4 @@ module _ (a b : List ℕ) (t : Tables a b) where
         read f start once seq registers m =
             let none : m % 1023 ≡ 0 + m % 1023 = omega arith in
             ap (λ (r : ℕ). inCycle r (m % 1023))
-            (ap (λ (q : ℕ). wordIn seq q / 2 ^ (64 - 10)) none ∙ registers (m % 1023) (omega arith) ∙ round f start once m)
+            (ap (λ (q : ℕ). wordIn seq q / 2 ^ (64 - 10)) none ∙ registers (m % 1023) (omega arith) ∙ sym (times-round f 1023 start once m))

@@ -1,66 +1,35 @@
 -- G1 and G2 come round by themselves: the end of a cycle is no event for the register.
 --     comes-again          1,023 shifts more lead to the same register
---     round                so many shifts lead where so many modulo 1,023 lead
---     g1-round, g2-round   1,023 shifts lead from the start to the start
 --     begins               a generator whose register is the one of its phase is so many steps from its start
 --     goes-on              and a step leads one further
 -- Assumes nothing.
-use Prim.Native.Nat.{ℕ, zero, suc, _+_, _*_, _/_, _%_, _<_, _≤_}
-use mathlib.Core.Bool.{Bool, true, false}
-use mathlib.Core.Path.{_≡_, refl, sym, ap, ap₂, _∙_}
+use Prim.Native.Nat.{ℕ, suc, _+_, _*_, _/_, _%_, _<_, _≤_}
+use mathlib.Core.Bool.{Bool}
+use mathlib.Core.Path.{_≡_, sym, ap, ap₂, _∙_}
 use mathlib.Core.Logic.{⊎-elim}
 use native.Mathlib.Nat.{eq-or-lt-of-le}
 use native.Mathlib.Omega.{arith}
 use borrow.Author.Tests.{ne-eqb, eq-eqb}
 use Rattle.registers.specs.Times.{times}
-use Rattle.registers.specs.Register.{stage, sumOf, shift, shiftG1, shiftG2}
-use Rattle.registers.proofs.Repeat.{times-add, times-last}
-use Rattle.starts.specs.Starts.{startG1, startG2}
-use Rattle.machine.specs.Generators.{stepGenerator, modeInRange}
+use Rattle.registers.proofs.Repeat.{times-add, times-last, times-rounds}
+use Rattle.machine.specs.Generators.{stepGenerator}
 use Rattle.machine.specs.Signals.{steady}
 use Rattle.machine.specs.Ranged.{RangedKind}
 use Rattle.machine.specs.declared.Mode.{Mode}
-use Rattle.machine.specs.declared.Mode.the-variants.{Running, Held}
+use Rattle.machine.specs.declared.Mode.the-variants.{Running}
 use Rattle.machine.specs.declared.Generator.{Generator}
+use Rattle.machine.proofs.Running.{running}
 use Rattle.windows_ca.specs.Periods.{inCycle}
 
 -- ---- registers
 
-nothing : (f : ℕ → ℕ) (x : ℕ) → times f 0 x ≡ x
-unfolding times
-nothing f x = refl
-
--- a shift that comes round from a start
-module _ (f : ℕ → ℕ) (start : ℕ) (once : times f 1023 start ≡ start) where
-  pub comes-again : (m : ℕ) → times f (m + 1023) start ≡ times f m start
-  comes-again m =
-      let swapped : m + 1023 ≡ 1023 + m = omega arith in
-      ap (λ (n : ℕ). times f n start) swapped ∙ times-add f 1023 m start ∙ ap (times f m) once
-
-  often : (q m : ℕ) → times f (q * 1023 + m) start ≡ times f m start
-  often zero m = ap (λ (n : ℕ). times f n start) (omega arith)
-  often (suc q) m =
-      let last : suc q * 1023 + m ≡ q * 1023 + m + 1023 = omega arith in
-      ap (λ (n : ℕ). times f n start) last ∙ comes-again (q * 1023 + m) ∙ often q m
-
-  pub round : (m : ℕ) → times f (m % 1023) start ≡ times f m start
-  round m =
-      let whole : m / 1023 * 1023 + m % 1023 ≡ m = omega arith in
-      sym (often (m / 1023) (m % 1023)) ∙ ap (λ (n : ℕ). times f n start) whole
-
-pub g1-round : times shiftG1 1023 startG1 ≡ startG1
-unfolding times shift sumOf stage
-g1-round = refl
-
-pub g2-round : times shiftG2 1023 startG2 ≡ startG2
-unfolding times shift sumOf stage
-g2-round = refl
+-- of a shift that comes round from a start
+pub comes-again : (f : ℕ → ℕ) (start : ℕ) → times f 1023 start ≡ start → (m : ℕ) → times f (m + 1023) start ≡ times f m start
+comes-again f start once m =
+    let swapped : m + 1023 ≡ 1023 + m = omega arith in
+    ap (λ (n : ℕ). times f n start) swapped ∙ times-add f 1023 m start ∙ ap (times f m) once
 
 -- ---- generators
-
-running : (m : Mode) → modeInRange false m ≡ true → m ≡ Running
-running Running h = refl
-running (Held n) h = cc
 
 -- a generator that m steps from its start lead to, never held, with one cycle of 1,023 chips
 abbrev pub on : (ℕ → ℕ) → ℕ → ℕ → Generator
@@ -81,8 +50,8 @@ module _ (f : ℕ → ℕ) (start : ℕ) where
       ⊎-elim
       (λ (end : m % 1023 ≡ 1022).
       let phase : 0 ≡ suc m % 1023 = omega (arith, end) in
-      let whole : suc m ≡ (m / 1023 + 1) * 1023 + 0 = omega (arith, end) in
-      let register : start ≡ times f (suc m) start = sym (ap (λ (n : ℕ). times f n start) whole ∙ often f start once (m / 1023 + 1) 0 ∙ nothing f start) in
+      let whole : suc m ≡ (m / 1023 + 1) * 1023 = omega (arith, end) in
+      let register : start ≡ times f (suc m) start = sym (ap (λ (n : ℕ). times f n start) whole ∙ times-rounds f 1023 start once (m / 1023 + 1)) in
       simp (eq-eqb (m % 1023) 1022 end) (ap₂ inCycle register phase))
       (λ (in-it : m % 1023 < 1022).
       let phase : m % 1023 + 1 ≡ suc m % 1023 = omega (arith, in-it) in
