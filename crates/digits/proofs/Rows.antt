@@ -4,6 +4,7 @@
 --     row-same     two rows of the same numbers
 --     row-then     a row, and more behind it
 --     put-back     what a write to the rest of a slice leaves in the whole
+--     put-behind   what a write behind a list leaves, where the list stands before what the slice had
 --     begun             none written
 --     go-on, ended-on, last-part   some written by another before
 --     one-more          one more number written
@@ -62,6 +63,16 @@ put-back written k n l =
     let none : drop (length l - n) (drop n l) ≡ [] = drop-of-length-le (drop n l) {i = length l - n} (omega arith) in
     simp (all, none, append-nil, drop-drop)
 
+-- a list x before what is left of a slice, and y written behind x
+pub put-behind : (x y old : List ℕ) (n k : ℕ) → length x ≡ n
+    → take n (x ++ drop n old) ++ (y ++ drop (n + k) (x ++ drop n old)) ≡ (x ++ y) ++ drop (n + k) old
+put-behind x y old n k long =
+    let front : take n (x ++ drop n old) ≡ x = take-at x (drop n old) n long in
+    let back : drop (n + k) (x ++ drop n old) ≡ drop (n + k) old
+    = sym (drop-drop k n (x ++ drop n old)) ∙ ap (drop k) (drop-at x (drop n old) n long) ∙ drop-drop k n old
+    in
+    rw (front, back) (sym (append-assoc x y (drop (n + k) old)))
+
 -- ---- a slice that is filled from the front
 
 -- n numbers of a row stand before what the slice had, and more are to come, as many as `count` in all
@@ -79,12 +90,8 @@ module _ (x : ℕ → ℕ) (count : ℕ) (old : List ℕ) where
   more : (new after : List ℕ) (n k : ℕ) → Filled x count old new n → n + k ≤ count
       → after ≡ take n new ++ (row (λ j. x (n + j)) k ++ drop (n + k) new) → Filled x count old after (n + k)
   more new after n k f h e =
-      let front : take n (row x n ++ drop n old) ≡ row x n = take-at (row x n) (drop n old) n (row-length x n) in
-      let back : drop (n + k) (row x n ++ drop n old) ≡ drop (n + k) old
-      = sym (drop-drop k n (row x n ++ drop n old)) ∙ ap (drop k) (drop-at (row x n) (drop n old) n (row-length x n)) ∙ drop-drop k n old
-      in
       let filled : after ≡ row x (n + k) ++ drop (n + k) old
-      = e ∙ rw (f .filled) (rw (front, back, row-then x n k) (sym (append-assoc (row x n) (row (λ j. x (n + j)) k) (drop (n + k) old))))
+      = e ∙ rw (f .filled) (rw (row-then x n k) (put-behind (row x n) (row (λ j. x (n + j)) k) old n k (row-length x n)))
       in
       let fits : n + k ≤ length old = omega (arith, h, f .room) in
       record {

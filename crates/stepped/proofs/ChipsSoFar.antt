@@ -7,11 +7,11 @@
 -- Assumes nothing.
 use Prim.Native.Nat.{ℕ, _+_, _-_, _<_, _≤_, zero-le}
 use mathlib.Core.Path.{_≡_, refl, sym, ap, _∙_}
-use mathlib.Core.List.{List, [], _∷_, _++_, append-assoc}
+use mathlib.Core.List.{List, [], _∷_, _++_}
 use native.Mathlib.Numerals.{add-one}
 use native.Mathlib.Omega.{arith}
 use lib.ListN.{length, take, drop, set, length-drop, length-append}
-use lib.Seq.{set-split, take-at, drop-at, drop-drop}
+use lib.Seq.{set-split}
 use Rattle.machine.specs.Signals.{Signal, signalOf}
 use Rattle.machine.specs.Machine.{stepAs, step, advance, chips}
 use Rattle.machine.specs.Ranged.{Ranged}
@@ -20,7 +20,7 @@ use Rattle.machine.proofs.Advance.{advance-none, advance-one, advance-add, adva
 use Rattle.machine.proofs.Chips.{chips-one, chips-length, chips-add}
 use Rattle.machine.proofs.Numbered.{fields-as, step-is, chip-is}
 use Rattle.machine.proofs.RangeLaw.{step-ranged}
-use Rattle.digits.proofs.Rows.{put-back}
+use Rattle.digits.proofs.Rows.{put-back, put-behind}
 use Rattle.stepped.specs.Inner.{Of}
 
 -- ---- the channel
@@ -41,14 +41,7 @@ advance-of s = advance-keeps (Of s) (step-of s)
 chips-behind : (start : Channel) (n k : ℕ) (old : List ℕ)
     → take n (chips n start ++ drop n old) ++ (chips k (advance n start) ++ drop (n + k) (chips n start ++ drop n old))
     ≡ chips (n + k) start ++ drop (n + k) old
-chips-behind start n k old =
-    let before = chips n start in
-    let after = drop n old in
-    let front : take n (before ++ after) ≡ before = take-at before after n (chips-length n start) in
-    let back : drop (n + k) (before ++ after) ≡ drop (n + k) old
-    = sym (drop-drop k n (before ++ after)) ∙ ap (drop k) (drop-at before after n (chips-length n start)) ∙ drop-drop k n old
-    in
-    rw (front, back, chips-add) (sym (append-assoc before (chips k (advance n start)) (drop (n + k) old)))
+chips-behind start n k old = rw chips-add (put-behind (chips n start) (chips k (advance n start)) old n k (chips-length n start))
 
 -- ---- the loop
 

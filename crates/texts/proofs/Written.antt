@@ -1,7 +1,6 @@
 -- Bytes written to a buffer from a place on.
 --     written-none, written-one    no byte, and one
 --     written-length               the buffer stays as long
---     written-behind               behind a list that stands before what the buffer had
 --     written-join                 more bytes behind those written
 --     puts-more, puts-length, puts-room    the same of Puts, and the room left
 --     byte-more, chip-more         one byte behind them, and one chip as text
@@ -16,9 +15,9 @@ use native.Mathlib.Numerals.{add-one}
 use native.Mathlib.Nat.{add-zero, add-assoc}
 use native.Mathlib.Omega.{arith}
 use lib.ListN.{length, take, drop, getD, set, take-append-drop, length-append, length-drop, length-map}
-use lib.Seq.{set-split, take-at, drop-at, drop-drop, length-take-le, take-suc}
+use lib.Seq.{set-split, length-take-le, take-suc}
 use Rattle.replies.specs.Reply.{written}
-use Rattle.digits.proofs.Rows.{put-back}
+use Rattle.digits.proofs.Rows.{put-back, put-behind}
 use Rattle.texts.specs.Texts.{chipDigit}
 use Rattle.texts.specs.Buffers.{Puts, Begins}
 
@@ -28,15 +27,6 @@ written-none n l = rw (add-zero n) (sym (take-append-drop n l))
 pub written-one : (n b : ℕ) (l : List ℕ) → n < length l → set l n b ≡ written n (b ∷ []) l
 written-one n b l h = rw (add-one n) (set-split l n b h)
 
--- a list x before what is left of the old buffer, and y written behind x
-pub written-behind : (x y old : List ℕ) (n : ℕ) → length x ≡ n → written n y (x ++ drop n old) ≡ (x ++ y) ++ drop (n + length y) old
-written-behind x y old n long =
-    let front : take n (x ++ drop n old) ≡ x = take-at x (drop n old) n long in
-    let back : drop (n + length y) (x ++ drop n old) ≡ drop (n + length y) old
-    = sym (drop-drop (length y) n (x ++ drop n old)) ∙ ap (drop (length y)) (drop-at x (drop n old) n long) ∙ drop-drop (length y) n old
-    in
-    rw (front, back) (sym (append-assoc x y (drop (n + length y) old)))
-
 pub written-length : (n : ℕ) (x l : List ℕ) → n + length x ≤ length l → length (written n x l) ≡ length l
 written-length n x l h = simp (length-append, length-drop, length-take-le n l (omega arith)) (omega arith)
 
@@ -44,7 +34,7 @@ pub written-join : (n : ℕ) (x y l : List ℕ) → n ≤ length l → written (
 written-join n x y l h =
     let front : length (take n l ++ x) ≡ n + length x = rw (length-append (take n l) x, length-take-le n l h) refl in
     ap (written (n + length x) y) (sym (append-assoc (take n l) x (drop (n + length x) l)))
-    ∙ written-behind (take n l ++ x) y l (n + length x) front
+    ∙ put-behind (take n l ++ x) y l (n + length x) (length y) front
     ∙ rw (length-append x y, append-assoc x y (drop (n + (length x + length y)) l), sym (add-assoc n (length x) (length y)))
     (append-assoc (take n l ++ x) y (drop (n + length x + length y) l) ∙ append-assoc (take n l) x (y ++ drop (n + length x + length y) l))
 
@@ -94,7 +84,7 @@ begins-none old = (refl, refl)
 pub begins-more : (x y old new after : List ℕ) (n m : ℕ) → Begins x old new n → m ≡ n + length y → after ≡ written n y new → Begins (x ++ y) old after m
 begins-more x y old new after n m b end wrote = (
   end ∙ rw (length-append x y) (ap (λ (k : ℕ). k + length y) (b .0)),
-  wrote ∙ ap (written n y) (b .1) ∙ written-behind x y old n (sym (b .0)) ∙ ap (λ (k : ℕ). (x ++ y) ++ drop k old) (sym end),
+  wrote ∙ ap (written n y) (b .1) ∙ put-behind x y old n (length y) (sym (b .0)) ∙ ap (λ (k : ℕ). (x ++ y) ++ drop k old) (sym end),
 )
 
 -- the list known by another name
