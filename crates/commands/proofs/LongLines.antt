@@ -8,14 +8,14 @@ use mathlib.Core.Path.{_≡_, refl, sym, ap, subst, _∙_}
 use native.Mathlib.Omega.{arith}
 use lib.Dec.{eqb}
 use lib.ListN.{length, take, drop, length-append}
-use lib.Seq.{drop-at}
+use lib.Seq.{take-take, drop-at}
 use borrow.Author.Tests.{ne-eqb}
 use Rattle.machine.specs.declared.Mode.{Mode}
 use Rattle.machine.specs.declared.Mode.the-variants as modes
 use Rattle.machine.specs.declared.Generator.{Generator}
 use Rattle.machine.specs.declared.Channel.{Channel}
 use Rattle.fields.specs.Fields.{digit}
-use Rattle.texts.proofs.Saying.{Plain}
+use Rattle.texts.proofs.Saying.{Plain, plain-take}
 use Rattle.words.specs.declared.Last.{Last}
 use Rattle.numbers.specs.Numbers.{found, missing, most64, digitsIn, numberWord, readNumber, unpadded, readArgument}
 use Rattle.words.specs.Words.{modeWord, generatorWord, generatorsWord, channelWord, readChannel}
@@ -30,14 +30,10 @@ use Rattle.commands.specs.declared.Command.the-variants as commands
 -- ---- bytes without a newline
 
 plain-none : (k : ℕ) → Plain (take k [])
-plain-none zero = tt
-plain-none (suc k) = tt
+plain-none k = plain-take k [] tt
 
 plain-fewer : (k n : ℕ) (l : List ℕ) → k ≤ n → Plain (take n l) → Plain (take k l)
-plain-fewer zero n l h p = tt
-plain-fewer (suc k) zero l h p = absurd (omega (arith, h))
-plain-fewer (suc k) (suc n) [] h p = tt
-plain-fewer (suc k) (suc n) (b ∷ l) h p = (p .0, plain-fewer k n l (omega arith) (p .1))
+plain-fewer k n l h p = subst Plain (take-take k n l h) (plain-take k (take n l) p)
 
 plain-behind : (j k n : ℕ) (l : List ℕ) → j + k ≤ n → Plain (take n l) → Plain (take k (drop j l))
 plain-behind zero k n l h p = plain-fewer k n l (omega (arith, h)) p

@@ -9,13 +9,12 @@ use mathlib.Core.List.{List, [], _∷_}
 use mathlib.Core.Path.{_≡_, refl, sym, ap, _∙_}
 use native.Mathlib.Omega.{arith}
 use lib.ListN.{length, take, drop, length-drop}
-use lib.Seq.{take-all, drop-drop}
+use lib.Seq.{take-all, drop-length, drop-drop}
 use borrow.Author.Tests.{not-true, not-false}
 use Rattle.machine.specs.declared.Channel.{Channel}
 use Rattle.words.specs.declared.Last.{Last}
 use Rattle.numbers.specs.Numbers.{Read, found}
 use Rattle.words.specs.Words.{readChannel, ofChannel}
-use Rattle.numbers.proofs.Bytes.{none-left}
 use Rattle.commands.specs.Commands.{begins, readNamed}
 use Rattle.commands.proofs.Beginnings.{long-enough}
 
@@ -43,7 +42,7 @@ module _ (mark : ℕ) (line : List ℕ) (at : ℕ) where
     unfolding readNamed
     none-opened e none =
         let gone : List ℕ → Read Channel = λ rest. record { there = false; value = last .channel; rest = rest } in
-        rw (e, not-true (last .opened) none) (ap gone (none-left line))
+        rw (e, not-true (last .opened) none) (ap gone (drop-length line))
 
     pub last-opened : begins (46 ∷ mark ∷ []) (drop at line) ≡ true → not (last .opened) ≡ false
         → ofChannel line record { there = true; channel = last .channel; end = at + 2 } ≡ readNamed last mark (drop at line)

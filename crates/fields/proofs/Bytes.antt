@@ -4,6 +4,7 @@
 --     sides-whole                             how long these are
 --     cut-is, cut-long, part-from, past-is    the same of the parts that `cut` and `past` find
 --     digits-go, digits-stop, digits-end      digits
+--     digit-range                             which bytes they are
 --     digit-at, value-more, value-end         the number that they stand for
 --     number-is                               a number has at most 13 of them
 --     ten-more, ten-small                     how large it is
@@ -88,6 +89,11 @@ past-is l n e = part-from l n ∙ e
 
 -- ---- digits
 
+pub digit-range : (b : ℕ) → digit b ≡ true → (48 ≤ b) × (b ≤ 57)
+digit-range b e =
+    let both = and-eq-true-iff (leb 48 b) (leb b 57) .0 e in
+    (leb-true 48 b (both .0), leb-true b 57 (both .1))
+
 module _ (l : List ℕ) (i : ℕ) (h : i < length l) where
   digits-more : digits (drop i l) ≡ digit (getD l i 0) && digits (drop (i + 1) l)
   digits-more = rw (add-one i, drop-cons l i 0 h)
@@ -104,8 +110,8 @@ module _ (l : List ℕ) (i : ℕ) (h : i < length l) where
       let b = getD l i 0 in
       let both : digit b && digits (drop (i + 1) l) ≡ true = sym digits-more ∙ e in
       let is = and-eq-true-iff (digit b) (digits (drop (i + 1) l)) .0 both in
-      let range = and-eq-true-iff (leb 48 b) (leb b 57) .0 (is .0) in
-      (leb-true 48 b (range .0), (leb-true b 57 (range .1), is .1))
+      let range = digit-range b (is .0) in
+      (range .0, (range .1, is .1))
 
   pub value-more : (n : ℕ) → valueFrom n (drop i l) ≡ valueFrom (n * 10 + (getD l i 0 - 48)) (drop (i + 1) l)
   value-more n = rw (add-one i, drop-cons l i 0 h)

@@ -16,7 +16,6 @@ use lib.ListN.{length, set, length-append, length-map}
 use borrow.Author.Tests.{leb-true, leb-false, le-leb, lt-leb, lt-ltb, ne-eqb}
 use Rattle.machine.specs.Signals.{weekOf}
 use Rattle.machine.specs.Machine.{isSignal, isPrn}
-use Rattle.replies.specs.Reply.{written}
 use Rattle.call_window.specs.Window.{mostChips}
 use Rattle.gps_chips.specs.Chips.{chipsAnswer, chipsBuffer, byTheMachine}
 use Rattle.gps_chips.proofs.Answers.{Admitted, admitted}
@@ -24,7 +23,7 @@ use Rattle.machine.proofs.Tests.{four}
 use Rattle.fields.specs.Fields.{after, isNumber, value, shorn}
 use Rattle.fields.proofs.Bytes.{number-is, sides-whole, shorn-short}
 use Rattle.texts.specs.Texts.{refusedLine, chipDigit}
-use Rattle.texts.specs.Buffers.{Begins}
+use Rattle.texts.specs.Buffers.{Puts, Begins}
 use Rattle.texts.proofs.Written.{begins-byte, begins-as, Room, room-none, room-more}
 use Rattle.lines.specs.Inner.{Fits}
 use Rattle.lines.specs.Lines.{signalField, prnField, placeField, countField, isCount, lineRefusal, echoed, answeredWith, replyTo, areNumbers, fieldsReply, lineReply}
@@ -61,28 +60,24 @@ answered-is signal prn place chips =
     ∙ append-assoc (echoed signal ++ echoed prn) (echoed place) (map chipDigit chips ++ (10 ∷ []))
     ∙ append-assoc (echoed signal) (echoed prn) (echoed place ++ (map chipDigit chips ++ (10 ∷ [])))
 
--- what a function writes from n on, and where it ends
-abbrev Wrote : List ℕ → List ℕ → ℕ → List ℕ → ℕ → Type 0
-Wrote x before n after m = (m ≡ n + length x) × (after ≡ written n x before)
-
 -- the parts of an answer, one after the other
 module _ (signal prn place chips old : List ℕ) (f : Fits signal prn place chips old) where
-  pub with-signal : (new : List ℕ) (n : ℕ) → Wrote (echoed signal) old 0 new n → Room (echoed signal) old new n 14
+  pub with-signal : (new : List ℕ) (n : ℕ) → Puts (echoed signal) 0 old new n → Room (echoed signal) old new n 14
   with-signal new n w =
       room-more [] (echoed signal) old old new 0 n 0 14 (room-none old) (w .0) (w .1) (echoed-most signal (f .signal-short)) (omega (arith, f .room))
 
-  pub with-prn : (new after : List ℕ) (n m : ℕ) → Room (echoed signal) old new n 14 → Wrote (echoed prn) new n after m
+  pub with-prn : (new after : List ℕ) (n m : ℕ) → Room (echoed signal) old new n 14 → Puts (echoed prn) n new after m
       → Room (echoed signal ++ echoed prn) old after m 28
   with-prn new after n m r w =
       room-more (echoed signal) (echoed prn) old new after n m 14 14 r (w .0) (w .1) (echoed-most prn (f .prn-short)) (omega (arith, f .room))
 
-  pub with-place : (new after : List ℕ) (n m : ℕ) → Room (echoed signal ++ echoed prn) old new n 28 → Wrote (echoed place) new n after m
+  pub with-place : (new after : List ℕ) (n m : ℕ) → Room (echoed signal ++ echoed prn) old new n 28 → Puts (echoed place) n new after m
       → Room ((echoed signal ++ echoed prn) ++ echoed place) old after m 42
   with-place new after n m r w =
       room-more (echoed signal ++ echoed prn) (echoed place) old new after n m 28 14 r (w .0) (w .1) (echoed-most place (f .place-short)) (omega (arith, f .room))
 
   pub with-chips : (new after : List ℕ) (n m : ℕ) → Room ((echoed signal ++ echoed prn) ++ echoed place) old new n 42
-      → Wrote (map chipDigit chips) new n after m → Room (((echoed signal ++ echoed prn) ++ echoed place) ++ map chipDigit chips) old after m 106
+      → Puts (map chipDigit chips) n new after m → Room (((echoed signal ++ echoed prn) ++ echoed place) ++ map chipDigit chips) old after m 106
   with-chips new after n m r w =
       room-more ((echoed signal ++ echoed prn) ++ echoed place) (map chipDigit chips) old new after n m 42 64 r (w .0) (w .1) (digits-most chips (f .few-chips))
       (omega (arith, f .room))

@@ -1,5 +1,4 @@
 -- Numbers in a text, one byte further on: what the readers need, which at byte i have `drop i` of the text before them.
---     none-left                                   at the text's end nothing is left
 --     first-digit, no-first, no-byte              a number's first digit
 --     on-mark, on-more, on-refused, on-end        the bytes behind it
 --     no-follow, follow                           whether a byte may follow
@@ -18,9 +17,6 @@ use borrow.Author.Tests.{leb-true, leb-false, eq-eqb, ne-eqb, le-leb, lt-leb}
 use Rattle.fields.specs.Fields.{digit}
 use Rattle.numbers.specs.Numbers.{found, missing, digitsOn, readNumber, unpadded}
 use Rattle.numbers.proofs.Numbers.{on-digit}
-
-pub none-left : (l : List ℕ) → drop (length l) l ≡ []
-none-left l = drop-of-length-le l {i = length l} (omega arith)
 
 -- ---- a byte that may follow
 

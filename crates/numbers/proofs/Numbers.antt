@@ -12,17 +12,13 @@ use lib.ListN.{length, length-append}
 use borrow.Author.Tests.{ltb-true, ltb-false, leb-true, leb-false, eqb-true, eq-eqb, ne-eqb, le-leb, lt-ltb, le-ltb}
 use Rattle.io.specs.Digits.{digits, glyph, Fewest}
 use Rattle.fields.specs.Fields.{digit}
+use Rattle.fields.proofs.Bytes.{digit-range}
 use Rattle.numbers.specs.Numbers.{Read, found, missing, digitsIn, numberWord, digitsOn, readNumber}
 
 -- ---- digits
 
 pub is-digit : (d : ℕ) → d < 10 → digit (48 + d) ≡ true
 is-digit d h = rw (le-leb 48 (48 + d) (omega arith), le-leb (48 + d) 57 (omega arith))
-
-pub digit-range : (b : ℕ) → digit b ≡ true → (48 ≤ b) × (b ≤ 57)
-digit-range b e =
-    let both = and-eq-true-iff (leb 48 b) (leb b 57) .0 e in
-    (leb-true 48 b (both .0), leb-true b 57 (both .1))
 
 tenth : (n k : ℕ) → n < 10 ^ suc k → n / 10 < 10 ^ k
 tenth n k h = omega (arith, h, pow-suc 10 k)

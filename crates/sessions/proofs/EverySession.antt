@@ -2,7 +2,7 @@
 --     every-session    the output is the answers to the input's lines, in order, however the input is cut into chunks and however long a line is: what the
 --                      promises of `feed` and `finish` say of chunk after chunk, put together
 -- Assumes nothing.
-use Prim.Native.Nat.{ℕ, zero, suc, _≤_, _<_}
+use Prim.Native.Nat.{ℕ, suc, _≤_, _<_}
 use mathlib.Core.Bool.{Bool, true, false, cond}
 use mathlib.Core.List.{List, [], _∷_, _++_, append-assoc, append-nil}
 use mathlib.Core.Path.{_≡_, refl, sym, ap, ap₂, subst, _∙_}
@@ -12,7 +12,7 @@ use lib.ListN.{length, take, length-append}
 use lib.Seq.{take-all, take-append-le}
 use borrow.Author.Tests.{leb-true, leb-false, eqb-false, ne-eqb}
 use Rattle.texts.specs.Saying.{whole}
-use Rattle.texts.proofs.Saying.{Plain, kept-more, rest-append, replies-append}
+use Rattle.texts.proofs.Saying.{Plain, plain-take, kept-more, rest-append, replies-append}
 use Rattle.words.specs.declared.Last.{Last}
 use Rattle.commands.specs.Commands.{commandOf}
 use Rattle.commands.specs.declared.Command.{Command}
@@ -25,11 +25,6 @@ use Rattle.sessions.specs.Sessions.{answerOf, lastOf, nobody, commandIn,
 plain-more : (l : List ℕ) (b : ℕ) → Plain l → (b ≡ 10 → ⊥) → Plain (l ++ (b ∷ []))
 plain-more [] b p n = (n, tt)
 plain-more (a ∷ l) b p n = (p .0, plain-more l b (p .1) n)
-
-plain-take : (k : ℕ) (l : List ℕ) → Plain l → Plain (take k l)
-plain-take zero l p = tt
-plain-take (suc k) [] p = tt
-plain-take (suc k) (b ∷ l) p = (p .0, plain-take k l (p .1))
 
 abbrev standing : List ℕ → Last → Talk
 standing line last = record { line = line; last = last }

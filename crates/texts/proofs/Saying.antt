@@ -1,5 +1,5 @@
 -- A program that takes bytes one after the other.
---     Plain                                    bytes without a newline
+--     Plain, plain-take                        bytes without a newline, and the first k of them
 --     full, one-more, held-again, kept-more    a line of which the first k bytes are kept
 --     replies-append, rest-append              what is said to two inputs, one after the other
 --     replies-more, rest-more                  to one byte more
@@ -17,6 +17,11 @@ use Rattle.texts.specs.Saying.{restOf, repliesOf}
 abbrev pub Plain : List ℕ → Type 0
 Plain [] = Unit {0}
 Plain (b ∷ bs) = (b ≡ 10 → ⊥) × Plain bs
+
+pub plain-take : (k : ℕ) (l : List ℕ) → Plain l → Plain (take k l)
+plain-take zero l p = tt
+plain-take (suc k) [] p = tt
+plain-take (suc k) (b ∷ l) p = (p .0, plain-take k l (p .1))
 
 -- ---- the bytes kept
 

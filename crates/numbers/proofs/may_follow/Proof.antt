@@ -6,8 +6,8 @@ use native.Mathlib.Omega.{arith}
 use borrow.Author.Tests.{not-true, not-false}
 use borrow.Author.Needs.{needs}
 use Rattle.fields.specs.Fields.{digit}
+use Rattle.fields.proofs.Bytes.{digit-range}
 use Rattle.numbers.proofs.Bytes.{no-follow, follow}
-use Rattle.numbers.proofs.Numbers.{digit-range}
 use Rattle.numbers.proofs.may_follow.Statement.{statement}
 use Rattle.numbers.proofs.may_follow.Tie as tie
 

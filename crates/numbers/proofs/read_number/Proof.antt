@@ -7,8 +7,8 @@ use lib.ListN.{getD}
 use borrow.Author.Tests.{not-true, not-false}
 use borrow.Author.Needs.{needs}
 use Rattle.fields.specs.Fields.{digit}
+use Rattle.fields.proofs.Bytes.{digit-range}
 use Rattle.numbers.proofs.Bytes.{no-byte, no-first, first-digit}
-use Rattle.numbers.proofs.Numbers.{digit-range}
 use Rattle.numbers.proofs.read_number.Statement.{statement}
 use Rattle.numbers.proofs.read_number.Tie as tie
 
