@@ -6,7 +6,7 @@ ghost use lib.ListN.{length, take};
 ghost use Rattle.replies.specs.Reply.{written};
 ghost use Rattle.texts.specs.Buffers.{Begins};
 ghost use Rattle.commands.specs.Commands.{commandOf};
-ghost use Rattle.sessions.specs.Sessions.{answerOf, lastOf, Talk, talk, nothing as Sessions·nothing, nobody, asked, next, said, rest, replies, lastAnswer, kept};
+ghost use Rattle.sessions.specs.Sessions.{answerOf, lastOf, talk, nothing as Sessions·nothing, nobody, asked, next, said, rest, replies, lastAnswer, kept};
 use answer_lines::Answered;
 use answer_lines::ROOM;
 use commands::Command;

@@ -1,6 +1,5 @@
 -- `windows_l5::fitting` meets its contract.
 -- Assumes nothing.
-use Prim.Native.Nat.{_≤_}
 use mathlib.Core.Path.{sym, _∙_}
 use native.Mathlib.Omega.{arith}
 use lib.Dec.{lit≤}

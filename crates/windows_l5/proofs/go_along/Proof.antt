@@ -1,6 +1,5 @@
 -- `windows_l5::go_along` meets its contract.
 -- Assumes nothing.
-use Prim.Native.Nat.{_+_, _≤_}
 use mathlib.Core.List.{_++_}
 use mathlib.Core.Path.{sym, ap, _∙_}
 use native.Mathlib.Omega.{arith}

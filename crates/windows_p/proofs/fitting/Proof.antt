@@ -1,6 +1,5 @@
 -- `windows_p::fitting` meets its contract.
 -- Assumes nothing.
-use Prim.Native.Nat.{_≤_}
 use mathlib.Core.Path.{sym, _∙_}
 use mathlib.Core.Bool.{_&&_}
 use native.Mathlib.Omega.{arith}
