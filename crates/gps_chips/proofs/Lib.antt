@@ -1,2 +1,3 @@
+-- `AsAWindow` is the theorem.
 pub mod Answers
 pub mod AsAWindow

@@ -1,2 +1,3 @@
+-- The papers' tables.
 pub mod EndStates
 pub mod KnownPlaces

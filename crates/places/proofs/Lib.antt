@@ -1,3 +1,4 @@
+-- `ThereAndBack`, `EpochOfP` and `Gaps` are the theorems.
 pub mod Epochs
 pub mod Answers
 pub mod ThereAndBack

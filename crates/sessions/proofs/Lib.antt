@@ -1,2 +1,3 @@
+-- `EverySession` is the theorem.
 pub mod Talks
 pub mod EverySession

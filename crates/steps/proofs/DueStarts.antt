@@ -1,5 +1,6 @@
 -- A step that is handed a start where it is due, and any number elsewhere, is the step from that start.
---     cm, cl, l5   of a channel of L2 CM, of L2 CL, and of I5 or Q5: its range and its step
+--     cm-ranged, cl-ranged, l5-ranged      the range of a channel of L2 CM, of L2 CL, and of I5 or Q5, which no start matters to
+--     cm-stepped, cl-stepped, l5-stepped   its step
 -- Assumes nothing.
 use Prim.Native.Nat.{ℕ, _-_}
 use mathlib.Core.Bool.{Bool, false}

@@ -1,2 +1,3 @@
+-- `EveryInput` is the theorem.
 pub mod Streams
 pub mod EveryInput

@@ -1,3 +1,4 @@
+-- `RoundTrip` is the theorem.
 pub mod Modes
 pub mod Generators
 pub mod RoundTrip
