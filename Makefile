@@ -1,8 +1,8 @@
 # `make run` does the main job, `make test` proves and tests everything. `make lib` writes the archive for C, `make codes` the line program, `make console`
-# the console. `make bench` times the archive against plain C. `make install` puts archive, header, programs and manual pages under PREFIX (/usr/local),
-# `make uninstall` takes them away.
+# the console. `make install` puts them, the header and the manual pages below PREFIX (/usr/local), `make uninstall` takes them away. `make bench` times the
+# archive against plain C; `make soak` compares archive and programs with an independent model until it is stopped.
 
-.PHONY: run codes console lib bench test install uninstall places
+.PHONY: run codes console lib bench soak test install uninstall places
 
 # Two rt at once would write the same proofs. rt takes the processors by itself (RT_JOBS).
 .NOTPARALLEL:
@@ -49,11 +49,17 @@ lib:
 bench: lib
 	$(call need,$(firstword $(CC)),a C compiler ($(CC)))
 	@mkdir -p target/bench
-	@$(CC) -O3 -std=c99 -D_POSIX_C_SOURCE=199309L -Wall -Wextra -Werror -Iinclude -Itests/host bench/*.c tests/host/reference.c $(archive) \
-		-o target/bench/bench
+	@$(CC) -O3 -std=c99 -D_POSIX_C_SOURCE=199309L -Wall -Wextra -Werror -Iinclude -Itests/reference bench/*.c tests/reference/codes.c tests/reference/registers.c \
+		$(archive) -o target/bench/bench
 	@target/bench/bench tests/tables
 
-# From nothing: the C side, the documents and the standards' tables; every proof, every wrong answer that has to be refused, every program.
+# Compares the archive and both programs with the independent model of tests/reference, in rounds of new cases, until it is stopped (Ctrl-C). Then it says what
+# it covered. SOAK has its options, such as --seconds 60 or --seed 7.
+soak: lib codes console
+	$(call need,$(firstword $(CC)),a C compiler ($(CC)))
+	@CC='$(CC)' tests/reference/soak.sh $(SOAK)
+
+# From nothing: the C side, the independent model, the documents and the standards' tables; every proof, every wrong answer that has to be refused, every program.
 # The last line is rt's verdict, "N passed, 0 failed".
 test:
 	$(need-rt)

@@ -16,7 +16,6 @@
 #include "code.h"
 #include "compare.h"
 #include "gps_chips.h"
-#include "reference.h"
 #include "registers.h"
 #include "stepping.h"
 
@@ -325,7 +324,6 @@ static void print_calls(void)
 
 static void prepare(const char *directory)
 {
-    reference_prepare();
     byte_tables_prepare();
     for (int i = 0; i < SIGNALS; i++) {
         struct code code = code_read(directory, (uint64_t)i + 1, TIMED_PRN);

@@ -28,11 +28,6 @@ uint64_t code_week(uint64_t signal)
     return signals[signal].week;
 }
 
-uint64_t code_place_after(uint64_t signal, uint64_t place, uint64_t chips)
-{
-    return (place + chips) % signals[signal].week;
-}
-
 uint64_t code_period(uint64_t signal)
 {
     return signals[signal].period;
@@ -81,14 +76,13 @@ static void read_row(const char *directory, const char *name, const char *column
 struct code code_read(const char *directory, uint64_t signal, uint64_t prn)
 {
     struct code code = { .signal = signal, .prn = prn };
-    uint32_t ca[3], l2[2], l5[2];
+    uint32_t ca[2], l2[2], l5[2];
 
-    read_row(directory, "table_3-Ia.tsv", "prn\ttap1\ttap2\tca_delay\t", prn, 10, ca, 3);
+    read_row(directory, "table_3-Ia.tsv", "prn\ttap1\ttap2\t", prn, 10, ca, 2);
     read_row(directory, "table_3-IIa.tsv", "prn\tcm_start_octal\tcl_start_octal\t", prn, 8, l2, 2);
     read_row(directory, "table_705_3-I.tsv", "prn\ti5_advance\tq5_advance\t", prn, 10, l5, 2);
     code.g2_tap1 = ca[0];
     code.g2_tap2 = ca[1];
-    code.g2_delay = ca[2];
     code.l2_start = l2[signal == GPS_CHIPS_CL];
     code.xb_advance = l5[signal == GPS_CHIPS_Q5];
     return code;

@@ -10,7 +10,6 @@
 struct code {
     uint64_t signal, prn;
     unsigned g2_tap1, g2_tap2; /* C/A: the two stages of G2 */
-    unsigned g2_delay;         /* C/A: the same as a delay in chips */
     uint32_t l2_start;         /* CM, CL: the register at the start of a period */
     unsigned xb_advance;       /* I5, Q5: chips that XB is ahead of all ones */
 };
@@ -22,9 +21,6 @@ const char *code_name(uint64_t signal);
 
 /* W, the chips in a week of the signal. */
 uint64_t code_week(uint64_t signal);
-
-/* The place so many chips further on, round the week. */
-uint64_t code_place_after(uint64_t signal, uint64_t place, uint64_t chips);
 
 /* C/A, CM and CL: the chips after which the code repeats. */
 uint64_t code_period(uint64_t signal);

@@ -8,43 +8,21 @@
 #include "reference.h"
 #include "stepping.h"
 
-enum { LONGEST = GPS_CHIPS_LENGTH_MAX, LONGEST_L2_PERIOD = 767250, UNSET = 0xA5 };
+enum { LONGEST = GPS_CHIPS_LENGTH_MAX, UNSET = 0xA5 };
 
 static const struct byte_tables *tables;
 static const struct code *code;
-static uint8_t l2_period[LONGEST_L2_PERIOD];
 static uint8_t expected[LONGEST], came[LONGEST];
 
-/* The reference of L2 is a shift, so that its period has to be written out. */
 void compare_prepare(const struct byte_tables *chosen)
 {
-    uint32_t state = chosen->code.l2_start;
-
     tables = chosen;
     code = &chosen->code;
-    if (code->signal != GPS_CHIPS_CM && code->signal != GPS_CHIPS_CL)
-        return;
-    for (uint64_t i = 0; i < code_period(code->signal); i++) {
-        l2_period[i] = (uint8_t)(state & 1u);
-        state = reference_l2_shift(state);
-    }
-}
-
-static uint8_t reference_chip(uint64_t place)
-{
-    switch (code->signal) {
-    case GPS_CHIPS_CA: return reference_ca(code->g2_delay, place);
-    case GPS_CHIPS_P:  return reference_p((unsigned)code->prn, place);
-    case GPS_CHIPS_CM:
-    case GPS_CHIPS_CL: return l2_period[place % code_period(code->signal)];
-    default:           return reference_l5(code->xb_advance, place);
-    }
 }
 
 static void expect(uint64_t place, size_t length)
 {
-    for (size_t i = 0; i < length; i++)
-        expected[i] = reference_chip(code_place_after(code->signal, place, i));
+    reference_chips(code->signal, code->prn, place, expected, length);
 }
 
 static int agrees(const char *who, uint64_t place, size_t length)

@@ -1,6 +1,6 @@
 /*
- * Compares the library, plain stepping and byte tables with the reference of the
- * tests, byte by byte, before anything is timed.
+ * Compares the library, plain stepping and byte tables with the independent model
+ * of tests/reference, byte by byte, before anything is timed.
  */
 #ifndef BENCH_COMPARE_H
 #define BENCH_COMPARE_H
@@ -10,7 +10,7 @@
 
 #include "byte_tables.h"
 
-/* Puts the reference to a code. The calls below are about this one. */
+/* Chooses a code. The calls below are about this one. */
 void compare_prepare(const struct byte_tables *tables);
 
 /* Compares all three over a window. Answers whether they agree, and prints what doesn't. */

@@ -78,13 +78,13 @@ run_test() {
 }
 
 check_library() {
-    local sources=(tests/host/test_gps_chips.c tests/host/reference.c)
+    local source=tests/host/test_gps_chips.c
 
-    "${cc[@]}" "${strict[@]}" -O2 "${sources[@]}" "$archive" -o "$out/test_gps_chips" \
+    "${cc[@]}" "${strict[@]}" -O2 "$source" "$archive" -o "$out/test_gps_chips" \
         || fail "the test doesn't compile"
     run_test "test" "$out/test_gps_chips" tests/tables
 
-    "${cc[@]}" "${strict[@]}" -O2 "${sanitized[@]}" "${sources[@]}" "$archive" -o "$out/test_gps_chips_sanitized" \
+    "${cc[@]}" "${strict[@]}" -O2 "${sanitized[@]}" "$source" "$archive" -o "$out/test_gps_chips_sanitized" \
         || fail "the test doesn't compile with sanitizers"
     run_test "test with sanitizers" "$out/test_gps_chips_sanitized" tests/tables
 

@@ -1,7 +1,7 @@
 /*
  * Tests gps_chips() through its header, as a C caller meets it: what it refuses
  * and in which order, which bytes it touches, that windows fit together, and
- * that its chips are those of the standards.
+ * what the standards print of its chips. tests/reference compares all the others.
  *
  *     test_gps_chips TABLES
  *
@@ -14,7 +14,6 @@
 #include <string.h>
 
 #include "gps_chips.h"
-#include "reference.h"
 
 #define COUNT_OF(array) (sizeof (array) / sizeof (array)[0])
 
@@ -518,22 +517,6 @@ static void close_table(struct table *table, unsigned rows, unsigned expected)
         printf("%s: expected %u rows, got %u\n", table->name, expected, rows);
 }
 
-/* All of a C/A period, from the table's delay of G2, in mid-week and across its end. */
-static void check_ca_period(unsigned prn, unsigned g2_delay)
-{
-    static uint8_t expected[1100], came[1100];
-    const uint64_t places[] = { 0, 300000000000, GPS_CHIPS_WEEK_CA - 550 };
-
-    for (size_t i = 0; i < COUNT_OF(places); i++) {
-        struct call c = { GPS_CHIPS_CA, prn, places[i], sizeof came };
-
-        for (size_t k = 0; k < c.length; k++)
-            expected[k] = reference_ca(g2_delay, round_week(c.signal, c.place, k));
-        take(c, came);
-        check_chips(c, "by IS-GPS-200, from the delay in Table 3-Ia", expected, came);
-    }
-}
-
 static void test_table_3_ia(const char *directory)
 {
     struct table table;
@@ -547,7 +530,6 @@ static void test_table_3_ia(const char *directory)
         /* The first octal digit of C/A is one chip. A blank P cell is an arrow in print: 4343. */
         check_digits(GPS_CHIPS_CA, prn, 0, cell(&table, "ca_first10_octal"), 1, 3);
         check_digits(GPS_CHIPS_P, prn, 0, *p != '\0' ? p : "4343", 3, 3);
-        check_ca_period(prn, number(&table, "ca_delay"));
         rows++;
     }
     close_table(&table, rows, 37);
@@ -596,124 +578,6 @@ static void test_known_places(void)
     check_digits(GPS_CHIPS_I5, 1, 0, "1101100010101", 1, 1);
 }
 
-/* ------------------------------------------------------------ reference codes */
-
-static void check_p(uint64_t prn, uint64_t place, size_t length)
-{
-    static uint8_t expected[LONGEST], came[LONGEST];
-    struct call c = { GPS_CHIPS_P, prn, place, length };
-
-    for (size_t i = 0; i < length; i++)
-        expected[i] = reference_p((unsigned)prn, round_week(GPS_CHIPS_P, place, i));
-    take(c, came);
-    check_chips(c, "by IS-GPS-200", expected, came);
-}
-
-/* A fixed row of numbers spread over 64 bits, so that every run tests the same places. */
-static uint64_t spread(uint64_t n)
-{
-    n = (n + 1) * UINT64_C(0x9E3779B97F4A7C15);
-    n = (n ^ n >> 30) * UINT64_C(0xBF58476D1CE4E5B9);
-    return n ^ n >> 27;
-}
-
-static void test_p(void)
-{
-    const uint64_t w = GPS_CHIPS_WEEK_P;
-    const uint64_t x1_epoch = 15345000, x2_epoch = 15345037;
-
-    for (uint64_t prn = 1; prn <= 37; prn++) {
-        check_p(prn, 0, 200);
-        check_p(prn, x1_epoch - 400, 500);
-        check_p(prn, w - 4200, 4300);
-    }
-    check_p(1, 0, LONGEST);
-    check_p(37, w - 60000, LONGEST);
-    for (uint64_t i = 1; i <= 50; i++) {
-        uint64_t epoch = spread(i) % 403000 + 1;
-
-        check_p(1 + i % 37, epoch * x1_epoch - 400, 500);
-        check_p(1 + i % 37, epoch * x2_epoch - 400, 500);
-    }
-    for (uint64_t i = 0; i < 100; i++)
-        check_p(1 + i % 37, spread(1000 + i) % w, 100);
-}
-
-/* Starts and end states of Table 3-IIa, for three of its PRNs. */
-static const struct {
-    uint64_t prn;
-    uint32_t cm_start, cl_start, cm_end, cl_end;
-} l2_rows[] = {
-    { 1, 0742417664, 0624145772, 0552566002, 0267724236 },
-    { 20, 0120161274, 0266527765, 0365636111, 0641733155 },
-    { 37, 0435506112, 0240713073, 0133501670, 0703702423 },
-};
-
-/* Walks through a whole period, window by window, from the start state to the printed end state. */
-static void check_l2_period(uint64_t signal, uint64_t prn, uint32_t start, uint32_t end, uint64_t period)
-{
-    static uint8_t expected[LONGEST], came[LONGEST];
-    uint64_t place = 0;
-    uint32_t state = start, last = start;
-
-    while (place < period) {
-        struct call c = { signal, prn, place, (size_t)(period - place < LONGEST ? period - place : LONGEST) };
-
-        for (size_t i = 0; i < c.length; i++) {
-            expected[i] = (uint8_t)(state & 1u);
-            last = state;
-            state = reference_l2_shift(state);
-        }
-        take(c, came);
-        check_chips(c, "by IS-GPS-200, from the start in Table 3-IIa", expected, came);
-        place += c.length;
-    }
-    if (fails(last == end))
-        printf("signal %" PRIu64 ", PRN %" PRIu64 ": expected the end state %09" PRIo32 ", got %09" PRIo32 "\n", signal,
-               prn, end, last);
-}
-
-static void test_l2(void)
-{
-    for (size_t i = 0; i < COUNT_OF(l2_rows); i++) {
-        check_l2_period(GPS_CHIPS_CM, l2_rows[i].prn, l2_rows[i].cm_start, l2_rows[i].cm_end, 10230);
-        check_l2_period(GPS_CHIPS_CL, l2_rows[i].prn, l2_rows[i].cl_start, l2_rows[i].cl_end, 767250);
-    }
-}
-
-/* Advances of XB in Table 3-I of IS-GPS-705, for three of its PRNs. */
-static const struct {
-    uint64_t prn;
-    unsigned i5, q5;
-} l5_rows[] = {
-    { 1, 266, 1701 },
-    { 20, 5443, 1523 },
-    { 37, 8057, 708 },
-};
-
-static void check_l5(uint64_t signal, uint64_t prn, unsigned xb_advance)
-{
-    static uint8_t expected[20500], came[20500];
-    const uint64_t places[] = { 0, 5000000000000, GPS_CHIPS_WEEK_I5 - 10240 };
-
-    for (size_t k = 0; k < COUNT_OF(places); k++) {
-        struct call c = { signal, prn, places[k], sizeof came };
-
-        for (size_t i = 0; i < c.length; i++)
-            expected[i] = reference_l5(xb_advance, round_week(signal, c.place, i));
-        take(c, came);
-        check_chips(c, "by IS-GPS-705, from the advance in its Table 3-I", expected, came);
-    }
-}
-
-static void test_l5(void)
-{
-    for (size_t i = 0; i < COUNT_OF(l5_rows); i++) {
-        check_l5(GPS_CHIPS_I5, l5_rows[i].prn, l5_rows[i].i5);
-        check_l5(GPS_CHIPS_Q5, l5_rows[i].prn, l5_rows[i].q5);
-    }
-}
-
 int main(int argc, char **argv)
 {
     if (argc != 2) {
@@ -722,7 +586,6 @@ int main(int argc, char **argv)
     }
     /* Line by line, so that a crash loses no message. */
     setvbuf(stdout, NULL, _IOLBF, 0);
-    reference_prepare();
 
     test_each_refusal_alone();
     test_order_of_refusals();
@@ -738,9 +601,6 @@ int main(int argc, char **argv)
     test_table_6_iii(argv[1]);
     test_last_chips_of_the_week();
     test_known_places();
-    test_p();
-    test_l2();
-    test_l5();
 
     if (failures != 0)
         printf("%lu of %lu checks failed\n", failures, checks);
