@@ -1,5 +1,5 @@
 #!/usr/bin/env bash
-# Checks what docs/CERTIFICATE.md cites. It needs no toolchain.
+# Checks what docs/CERTIFICATE.md cites, and that the files exist that the other documents name. It needs no toolchain.
 #
 #     tests/certificate/run.sh [DOCUMENT]
 #
@@ -127,6 +127,26 @@ for edit in crates/*/must-fail/*.edit; do
     [ -n "${cited[$name]:-}" ] || wrong "$edit is cited nowhere"
 done
 
+# The other documents: what is in backticks and begins with a folder of the repository is there.
+named=0
+for other in README.md docs/*.md tests/*/README.md; do
+    [ "$other" != "$document" ] || continue
+    line=0
+    while IFS= read -r text; do
+        line=$((line + 1))
+        while [[ $text == *\`*\`* ]]; do
+            text=${text#*\`} span=${text%%\`*} text=${text#*\`}
+            case $span in
+                *' '* | *'*'*) ;;
+                crates/* | docs/* | tests/* | include/* | host/* | man/* | bench/*)
+                    named=$((named + 1))
+                    [ -e "$span" ] || document=$other wrong "no file $span"
+                    ;;
+            esac
+        done
+    done <"$other"
+done
+
 proved='' unproved=''
 for program in codes console standards; do
     check_axioms $program
@@ -134,4 +154,5 @@ done
 
 [ $failures -eq 0 ] || exit 1
 echo "certificate: $rows rows, $files files and $names names in them, $promises promises, ${#cited[@]} wrong answers: all are there"
+echo "documents: $named files are named in the others, and are there"
 echo "certificate: assumptions as rt counts them:${proved:- none}${unproved:+; not proved here:$unproved}"
