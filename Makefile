@@ -45,7 +45,8 @@ lib:
 	@echo 'header:  $(header)'
 	@echo 'link:    cc prog.c -Iinclude $(archive)'
 
-# Compares the archive with plain C that makes the same chips, byte by byte, then times both, in some 20 seconds. Best with nothing else running.
+# Compares the archive, and plain C that makes the same chips, with the independent model, byte by byte, then times them, in some 20 seconds. Best with nothing
+# else running.
 bench: lib
 	$(call need,$(firstword $(CC)),a C compiler ($(CC)))
 	@mkdir -p target/bench

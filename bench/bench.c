@@ -1,6 +1,6 @@
 /*
  * How fast gps_chips() is, against plain C that makes the same chips. It compares
- * every window with the reference of the tests first, then times, then prints a
+ * every window with the independent model first, then times, then prints a
  * table. A difference ends it with status 1.
  *
  *     bench TABLES
@@ -263,7 +263,7 @@ static void time_calls(void)
 static void print_head(void)
 {
     printf("PRN %d, one byte a chip, one thread. Each time is the best of many, in nanoseconds (ns).\n", TIMED_PRN);
-    printf("Every window timed was first compared with the reference, byte by byte.\n\n");
+    printf("Every window timed was first compared with the independent model, byte by byte.\n\n");
     printf("  gps_chips  the library's call, which finds the place itself\n");
     printf("  stepping   plain C, the shift registers step by step, from a state already at the place\n");
     printf("  tables     plain C, copied or added from bytes written out beforehand\n");

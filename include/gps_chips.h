@@ -18,8 +18,8 @@
  *     2  GPS_CHIPS_P   L1, L2 P    10,230,000  6,187,104,000,000   the week
  *     3  GPS_CHIPS_CM  L2 CM          511,500    309,355,200,000   10,230 chips
  *     4  GPS_CHIPS_CL  L2 CL          511,500    309,355,200,000   767,250 chips
- *     5  GPS_CHIPS_I5  L5 I        10,230,000  6,187,104,000,000   10,230 chips
- *     6  GPS_CHIPS_Q5  L5 Q        10,230,000  6,187,104,000,000   10,230 chips
+ *     5  GPS_CHIPS_I5  L5 I5       10,230,000  6,187,104,000,000   10,230 chips
+ *     6  GPS_CHIPS_Q5  L5 Q5       10,230,000  6,187,104,000,000   10,230 chips
  *
  * L2 CM and L2 CL are two signals here, each with its own places. On the air
  * their chips take turns: CM's place n is sent first, then CL's place n.

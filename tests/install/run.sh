@@ -23,7 +23,7 @@ unset MAKEFLAGS MFLAGS PREFIX BINDIR LIBDIR INCLUDEDIR MANDIR DESTDIR PKG_CONFIG
 export PKG_CONFIG_PATH=$prefix/lib/pkgconfig
 
 built=(target/staticlib/libgps_chips.a target/bin/codes target/bin/console)
-make -q "${built[@]}" || fail "not in target/, or older than crates/ ('make lib codes console' builds them): ${built[*]}"
+make --no-print-directory -q "${built[@]}" || fail "not in target/, or older than crates/ ('make lib codes console' builds them): ${built[*]}"
 
 # An rt that answers nothing stands before any other: who asks for it is found out.
 mkdir "$out/first"
