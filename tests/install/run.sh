@@ -100,12 +100,12 @@ check_prefix() (
 # DESTDIR is nowhere in what is installed, and may have a space.
 check_destdir() {
     local stage="$out/a stage"
-    makes install DESTDIR="$stage" PREFIX=/opt/gps
-    has_all "$stage/opt/gps"
+    makes install DESTDIR="$stage" PREFIX=/usr
+    has_all "$stage/usr"
     [ "$(find "$stage" ! -type d | wc -l)" = 8 ] || fail "$stage: files that are not below PREFIX"
-    says "$stage/opt/gps/lib/pkgconfig/gps_chips.pc" prefix=/opt/gps
+    says "$stage/usr/lib/pkgconfig/gps_chips.pc" prefix=/usr
     ! grep -rqF "$stage" "$stage" || fail "DESTDIR stands in $(grep -rlF "$stage" "$stage")"
-    makes uninstall DESTDIR="$stage" PREFIX=/opt/gps
+    makes uninstall DESTDIR="$stage" PREFIX=/usr
     has_none "$stage"
     echo "install: below DESTDIR, and away again"
 }

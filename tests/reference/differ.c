@@ -197,7 +197,7 @@ static int soak(uint64_t first, uint64_t rounds_most, uint64_t seconds_most)
             say_running(rounds, first + rounds - 1, start);
         }
     }
-    printf("%s rounds, seeds %" PRIu64 " to %" PRIu64 ", %s s: %s\n", grouped(rounds), first, first + rounds - (rounds > 0 ? 1 : 0),
+    printf("rounds: %s, seeds %" PRIu64 " to %" PRIu64 ", %s s: %s\n", grouped(rounds), first, first + rounds - (rounds > 0 ? 1 : 0),
            grouped((uint64_t)(time(NULL) - start)), agreed ? "no difference" : "the last one differs");
     for (int door = 0; door < DOORS; door++)
         say_covered(door);

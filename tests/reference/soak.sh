@@ -39,4 +39,5 @@ build
 mkdir -p "$out/soak"
 cp "$codes" "$out/soak/codes"
 cp "$console" "$out/soak/console"
+echo "comparing with the model, round after round, from seed $from on; Ctrl-C stops it"
 exec "$out/differ" soak "$out/soak" "$out/soak/codes" "$out/soak/console" "$from" "$rounds" "$seconds"

@@ -1,5 +1,5 @@
 #!/usr/bin/env bash
-# Compares the stored output of the program `standards` with the tables that the standards print.
+# Compares the stored output of the program `standards`, and the lists that were typed into the definitions, with the tables that the standards print.
 #
 #     tests/standards/run.sh [FILE]
 #
@@ -213,3 +213,51 @@ compare >"$out/report" || { cat "$out/report" >&2; fail "the comparison of $foun
 bytes=$(awk -F '\t' '{ sum += length($4) + 1 } END { print sum }' "$expected")
 [ "$(wc -c <"$found")" -eq "$bytes" ] || fail "$found has $(wc -c <"$found") bytes, expected $bytes"
 cat "$out/report"
+
+# ------------------------------------------------------------ definitions
+
+# typed FILE NAME: the numbers of a list in a definition, one to a line, as written but for the mark of their base.
+typed() {
+    awk -v head="$2 =" '
+        index($0, head) == 1 { inside = 1; $0 = substr($0, length(head) + 1) }
+        inside {
+            gsub(/∷/, " ")
+            last = gsub(/\[\]/, " ")
+            for (i = 1; i <= NF; i++) { sub(/^0[bo]/, "", $i); print $i }
+            if (last) exit
+        }' "crates/$1"
+}
+
+# printed TABLE COLUMN..: the cells of these columns, row by row, one to a line.
+printed() {
+    local table=$1
+    shift
+    awk -F '\t' -v columns="$*" '
+        NR == 1 { count = split(columns, name, " "); for (i = 1; i <= NF; i++) column[$i] = i; next }
+        { for (i = 1; i <= count; i++) print $column[name[i]] }' "tests/tables/$table"
+}
+
+# same_list FILE NAME TABLE COLUMN..: the list is these columns of the table.
+same_list() {
+    local file=$1 name=$2
+    shift 2
+    typed "$file" "$name" >"$out/typed"
+    printed "$@" >"$out/printed"
+    [ -s "$out/printed" ] || fail "tests/tables/$1 has no rows"
+    cmp -s "$out/typed" "$out/printed" || fail "crates/$file, $name: not ${*:2} of tests/tables/$1: $(diff "$out/typed" "$out/printed" | head -3 | paste -sd ' ')"
+    lists=$((lists + 1))
+    numbers=$((numbers + $(wc -l <"$out/printed")))
+}
+
+lists=0 numbers=0
+same_list starts/specs/Starts.antt stagesCA table_3-Ia.tsv tap1 tap2
+same_list standard/specs/Standard.antt codeDelays table_3-Ia.tsv ca_delay
+same_list starts/specs/Starts.antt startsCM table_3-IIa.tsv cm_start_octal
+same_list starts/specs/Starts.antt startsCL table_3-IIa.tsv cl_start_octal
+same_list known_places/proofs/EndStates.antt endsCM table_3-IIa.tsv cm_end_octal
+same_list known_places/proofs/EndStates.antt endsCL table_3-IIa.tsv cl_end_octal
+same_list starts/specs/Starts.antt advancesI5 table_705_3-I.tsv i5_advance
+same_list starts/specs/Starts.antt advancesQ5 table_705_3-I.tsv q5_advance
+same_list starts/proofs/PrintedVectors.antt vectorsI5 table_705_3-I.tsv i5_vector
+same_list starts/proofs/PrintedVectors.antt vectorsQ5 table_705_3-I.tsv q5_vector
+echo "definitions: $lists lists, $numbers numbers, are those of the tables"
