@@ -23,15 +23,13 @@ run: codes
 	@printf '%s\n' "$$LINE" | target/bin/codes
 	@echo 'For more: type lines of SIGNAL PRN PLACE COUNT into target/bin/codes, or target/bin/codes <FILE >REPLIES'
 
-# A program: proves it and all below it, builds it, and tests how it reads and writes, which no proof covers.
-# rt leaves a program as it is while its proof stands, even one that is missing, so that the proof's stamp has to go. For `make install` a program that passed is
-# newer than its sources, and one that failed its tests older.
+# A program: proves it and all below it, builds it, and tests how it reads and writes, which no proof covers. For `make install` a program that passed is newer
+# than its sources, and one that failed its tests older.
 codes console:
 	$(need-rt)
-	@mkdir -p target
-	@[ -e target/bin/$@ ] || rm -f target/stamp/$@
+	@mkdir -p target/bin
 	@echo 'proving $@ and what it rests on, some minutes the first time (target/$@.log)'
-	@{ rt check $@ && tests/$@/run.sh; } >target/$@.log 2>&1 || { touch -c -t 200001010000 target/bin/$@; cat target/$@.log >&2; exit 1; }
+	@{ (cd crates/$@ && rt run </dev/null) && cp crates/$@/out/$@ target/bin/$@ && tests/$@/run.sh; } >target/$@.log 2>&1 || { touch -c -t 200001010000 target/bin/$@; cat target/$@.log >&2; exit 1; }
 	@touch target/bin/$@
 	@echo 'program: target/bin/$@'
 
@@ -40,7 +38,7 @@ lib:
 	$(need-rt)
 	@mkdir -p target
 	@echo 'proving gps_chips and what it rests on, some two minutes the first time (target/lib.log)'
-	@rt staticlib gps_chips >target/lib.log 2>&1 || { cat target/lib.log >&2; exit 1; }
+	@{ (cd crates/gps_chips_c && rt lib) && mkdir -p $(dir $(archive)) && cp crates/gps_chips_c/out/libgps_chips_c.a $(archive); } >target/lib.log 2>&1 || { cat target/lib.log >&2; exit 1; }
 	@echo 'archive: $(archive)'
 	@echo 'header:  $(header)'
 	@echo 'link:    cc prog.c -Iinclude $(archive)'

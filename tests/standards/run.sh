@@ -250,14 +250,14 @@ same_list() {
 }
 
 lists=0 numbers=0
-same_list starts/specs/Starts.antt stagesCA table_3-Ia.tsv tap1 tap2
-same_list standard/specs/Standard.antt codeDelays table_3-Ia.tsv ca_delay
-same_list starts/specs/Starts.antt startsCM table_3-IIa.tsv cm_start_octal
-same_list starts/specs/Starts.antt startsCL table_3-IIa.tsv cl_start_octal
-same_list known_places/proofs/EndStates.antt endsCM table_3-IIa.tsv cm_end_octal
-same_list known_places/proofs/EndStates.antt endsCL table_3-IIa.tsv cl_end_octal
-same_list starts/specs/Starts.antt advancesI5 table_705_3-I.tsv i5_advance
-same_list starts/specs/Starts.antt advancesQ5 table_705_3-I.tsv q5_advance
-same_list starts/proofs/PrintedVectors.antt vectorsI5 table_705_3-I.tsv i5_vector
-same_list starts/proofs/PrintedVectors.antt vectorsQ5 table_705_3-I.tsv q5_vector
+same_list starts/specs/Starts.antt stages_ca table_3-Ia.tsv tap1 tap2
+same_list standard/specs/Standard.antt code_delays table_3-Ia.tsv ca_delay
+same_list starts/specs/Starts.antt starts_cm table_3-IIa.tsv cm_start_octal
+same_list starts/specs/Starts.antt starts_cl table_3-IIa.tsv cl_start_octal
+same_list known_places/proofs/EndStates.antt ends_cm table_3-IIa.tsv cm_end_octal
+same_list known_places/proofs/EndStates.antt ends_cl table_3-IIa.tsv cl_end_octal
+same_list starts/specs/Starts.antt advances_i5 table_705_3-I.tsv i5_advance
+same_list starts/specs/Starts.antt advances_q5 table_705_3-I.tsv q5_advance
+same_list starts/proofs/PrintedVectors.antt vectors_i5 table_705_3-I.tsv i5_vector
+same_list starts/proofs/PrintedVectors.antt vectors_q5 table_705_3-I.tsv q5_vector
 echo "definitions: $lists lists, $numbers numbers, are those of the tables"

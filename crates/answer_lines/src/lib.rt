@@ -1,5 +1,7 @@
 // The parts of an answer of the console: each writes a line of text, or the end of one, to the buffer that is lent for it. A whole line stands at the
 // buffer's start, and what is answered is where it ends.
+#![tactic(auto)]
+
 ghost use Rattle.std.specs.Prelude.{◌≡◌, ◌++◌, ◌≤◌, ◌+◌, ltb, length};
 ghost use Rattle.numbers.specs.Numbers.{number_word};
 ghost use Rattle.words.specs.Words.{channel_word};
@@ -99,7 +101,7 @@ pub fn answer_chips(refusal: u64, chips: &[u8], out: &mut [u8]) -> usize
 // ---- what `.` stands for after an answer
 
 // Where an answer ends, and what `.` stands for after it.
-#[derive(Drop)]
+#[derive(Clone, Copy)]
 pub struct Answered {
     pub end: usize,
     pub last: Last,

@@ -1,10 +1,12 @@
 // The call open. Whoever calls, with any numbers, gets the reply that `specs/Open.antt` sets out.
+#![tactic(auto)]
+
 ghost use Rattle.std.specs.Prelude.{◌≡◌};
 ghost use Rattle.call_open.specs.Open.{of_opened, open_reply};
 
 use machine::Channel;
 
-#[derive(Drop)]
+#[derive(Clone, Copy)]
 pub enum Opened {
     // The channel at place 0.
     At(Channel),

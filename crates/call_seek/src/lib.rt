@@ -1,11 +1,13 @@
 // The call seek. Whoever calls, with any channel value and any number, gets the reply that `specs/Seek.antt` sets out. A refused call hands back the channel
 // as it came.
+#![tactic(auto)]
+
 ghost use Rattle.std.specs.Prelude.{◌≡◌};
 ghost use Rattle.call_seek.specs.Seek.{of_sought, seek_reply};
 
 use machine::Channel;
 
-#[derive(Drop)]
+#[derive(Clone, Copy)]
 pub enum Sought {
     // The leaps made, and the channel at the place sought.
     At(u32, Channel),

@@ -1,10 +1,12 @@
 // The call step. Whoever calls, with any channel value, gets the reply that `specs/Step.antt` sets out. A refused call hands back the channel as it came.
+#![tactic(auto)]
+
 ghost use Rattle.std.specs.Prelude.{◌≡◌};
 ghost use Rattle.call_step.specs.Step.{of_stepped, step_reply};
 
 use machine::Channel;
 
-#[derive(Drop)]
+#[derive(Clone, Copy)]
 pub enum Stepped {
     // The chip at the place where the channel came, 0 or 1, and the channel one step on.
     Chip(u8, Channel),

@@ -1,11 +1,13 @@
 // The call window. Whoever calls, with any channel value, any numbers and any buffer, gets the reply that `specs/Window.antt` sets out. A refused call hands
 // back the channel as it came and changes no byte.
+#![tactic(auto)]
+
 ghost use Rattle.std.specs.Prelude.{◌≡◌};
 ghost use Rattle.call_window.specs.Window.{of_windowed, window_reply};
 
 use machine::Channel;
 
-#[derive(Drop)]
+#[derive(Clone, Copy)]
 pub enum Windowed {
     // The chips stand in the buffer; the channel, moved on by as many.
     Written(Channel),

@@ -1,5 +1,7 @@
 // The calls on a channel as the console makes them: each with its reply as a line of text, written at the start of the buffer that is lent for it. What is
 // answered is where the line ends and what `.` stands for after it.
+#![tactic(auto)]
+
 ghost use Rattle.std.specs.Prelude.{◌≡◌, ◌≤◌, length};
 ghost use Rattle.call_open.specs.Open.{open_reply};
 ghost use Rattle.call_seek.specs.Seek.{seek_reply};

@@ -23,11 +23,11 @@ module _ (mark : ℕ) (line : List ℕ) (at : ℕ) where
     here : begins (46 ∷ mark ∷ []) (drop at line) ≡ t
     here = sym (tested ∙ ap (begins (46 ∷ mark ∷ [])) (take_all (length line - at) (drop at line) (omega (arith, length-drop at line))))
 
-    pub no_dot : not t ≡ true → begins (46 ∷ mark ∷ []) (drop at line) ≡ false
-    no_dot e = here ∙ not-true t e
+    pub no_dot : t ≡ false → begins (46 ∷ mark ∷ []) (drop at line) ≡ false
+    no_dot e = here ∙ e
 
-    pub dot : not t ≡ false → begins (46 ∷ mark ∷ []) (drop at line) ≡ true
-    dot e = here ∙ not-false t e
+    pub dot : t ≡ true → begins (46 ∷ mark ∷ []) (drop at line) ≡ true
+    dot e = here ∙ e
 
   pub dot_fits : at ≤ length line → begins (46 ∷ mark ∷ []) (drop at line) ≡ true → at + 2 ≤ length line
   dot_fits within e = omega (arith, long_enough (46 ∷ mark ∷ []) (drop at line) e, length-drop at line)

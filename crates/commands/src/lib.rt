@@ -1,4 +1,6 @@
 // A line of the console, and the command in it. A line is given with its newline.
+#![tactic(auto)]
+
 ghost use Rattle.std.specs.Prelude.{◌≡◌, ◌≤◌, length, drop};
 ghost use Rattle.words.specs.Words.{of_channel};
 ghost use Rattle.commands.specs.Commands.{begins as Commands·begins, read_named, read_open, read_seek, read_step, read_window, read_chips, read_reading, read_place_of, read_gap, command_of};
@@ -7,7 +9,7 @@ use machine::Channel;
 use words::{ChannelRead, Last};
 
 // A call with its arguments, in the order of the engine's.
-#[derive(Drop)]
+#[derive(Clone, Copy)]
 pub enum Command {
     Open(u64, u64),
     Seek(Channel, u64),

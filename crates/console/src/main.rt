@@ -1,10 +1,16 @@
 // The console: reads commands from standard input, a line each, and answers each on standard output. `commands` says what a line asks for,
 // `channel_answers` and `place_answers` what a call is answered and `sessions` what is said in a whole session; this is a loop over that.
-ghost use Rattle.std.specs.Prelude.{◌≤◌, ◌≡◌, length};
+#![tactic(auto)]
+
+ghost use Rattle.std.specs.Prelude.{◌≡◌, ◌≤◌, length, IfOk, IfSome, OnOk};
+ghost use Rattle.std.specs.Io.KnownBytes.{Appends};
+ghost use Rattle.sessions.specs.Sessions.{talk, replies, rest, last_answer, output as whole_output};
 
 use answer_lines::MOST_LENGTH;
-use libc::{STDERR_FILENO, STDIN_FILENO, STDOUT_FILENO};
+use line_programs::{CHUNK, Failed};
 use sessions::{KEPT, State};
+use std::io;
+use std::io::{IsTerminal, Read, Write};
 
 // So many bytes of answers are written at once: any answer fits, and behind it as many bytes of short ones.
 const OUT: usize = 131_072;
@@ -37,143 +43,108 @@ For example: open 2 1, then seek . 15344999, window . 10 10 0, step .
 "
 }
 
-// How it goes on after a turn: more may follow, the input has ended, or a read or a write failed.
-#[derive(Drop)]
-pub enum Then {
-    More,
-    End,
-    Failed,
-}
-
-// What reading once leaves.
-#[derive(Drop)]
-pub struct Turn {
-    pub then: Then,
-    pub state: State,
-}
-
-// Writes all bytes, or says why it can't.
-fn wrote(bytes: &[u8]) -> bool {
-    let all = io::write_all(STDOUT_FILENO, bytes);
-    if !all {
-        os::fail(b"console: standard output");
-    }
-    all
-}
-
 // The answers to a chunk, written as the buffer fills and at the chunk's end, so that someone who types a line sees its answer.
-fn answer(line: &mut [u8], start: State, input: &[u8], work: &mut [u8], out: &mut [u8]) -> Turn
+fn answer<W: Write>(
+    line: &mut [u8],
+    start: State,
+    chunk: &[u8],
+    help: &[u8],
+    work: &mut [u8],
+    out: &mut [u8],
+    output: &mut W,
+) -> io::Result<State>
     requires len_in_bounds { start.len ≤ length line.old }
     requires line_len { length line.old ≡ 1024 }
+    requires help_len_bound { length help.now ≤ 66048 }
     requires in_bounds { 131072 ≤ length work.old }
     requires in_bounds_2 { 66048 ≤ length out.old }
-    ensures { result.state.len ≤ 1024 }
+    ensures len { IfOk result (λ state. state.len ≤ 1024) }
+    ensures state { IfOk result (λ state. talk line.new state ≡ rest (talk line.old start) chunk.now) }
+    ensures written { OnOk result (Appends (W.contents output.old) (W.contents output.new) (replies help.now (talk line.old start) chunk.now)) }
 {
-    let text = help();
     let mut state = start;
     let mut at = 0;
-    while at < input.len() {
-        let fed = sessions::feed(line, state, &input[at..], &text, work, out);
-        let n = fed.n;
-        let used = fed.used;
+    while at < chunk.len() {
+        let fed = sessions::feed(line, state, &chunk[at..], help, work, out);
+        output.write_all(&out[..fed.n])?;
         state = fed.state;
-        if !wrote(&out[..n]) {
-            return Turn {
-                then: Then::Failed,
-                state,
-            };
-        }
-        at += used;
+        at += fed.used;
     }
-    Turn {
-        then: Then::More,
-        state,
-    }
-}
-
-// Reads once. A read that fails is not the end of the input: it is told, and an unfinished line is left without an answer.
-fn read_once(line: &mut [u8], state: State, work: &mut [u8], out: &mut [u8]) -> Turn
-    requires len_in_bounds { state.len ≤ length line.old }
-    requires line_len { length line.old ≡ 1024 }
-    requires in_bounds { 131072 ≤ length work.old }
-    requires in_bounds_2 { 66048 ≤ length out.old }
-    ensures { result.state.len ≤ 1024 }
-{
-    let mut buffer = io::large_buffer();
-    let got = libc::read(STDIN_FILENO, &mut buffer);
-    if got < 0 {
-        os::fail(b"console: standard input");
-        return Turn {
-            then: Then::Failed,
-            state,
-        };
-    }
-    if got == 0 {
-        return Turn {
-            then: Then::End,
-            state,
-        };
-    }
-    let n = io::count(got, &buffer);
-    answer(line, state, &buffer[..n], work, out)
+    Ok(state)
 }
 
 // The answer that the input's end brings: that of a last line lacking its newline, if there is one.
-fn finish(line: &mut [u8], state: State, work: &mut [u8], out: &mut [u8])
+fn finish<W: Write>(
+    line: &mut [u8],
+    state: State,
+    help: &[u8],
+    work: &mut [u8],
+    out: &mut [u8],
+    output: &mut W,
+) -> io::Result<()>
     requires len_in_bounds { state.len ≤ length line.old }
     requires line_len { length line.old ≡ 1024 }
+    requires help_len_bound { length help.now ≤ 66048 }
     requires in_bounds { 131072 ≤ length work.old }
     requires in_bounds_2 { 66048 ≤ length out.old }
+    ensures { OnOk result (Appends (W.contents output.old) (W.contents output.new) (last_answer help.now (talk line.old state))) }
 {
-    let text = help();
-    let n = sessions::finish(line, state, &text, work, out);
-    wrote(&out[..n]);
+    let n = sessions::finish(line, state, help, work, out);
+    output.write_all(&out[..n])
 }
 
-// A proved loop has to end, and nothing says that an input does. So it counts its turns down, from a number that no run uses up.
-fn answer_all() {
+// Reads and answers a chunk at a time, as it comes. A read that fails is not the end of the input: an unfinished line is left without an answer.
+fn answer_all<R: Read, W: Write>(help: &[u8], input: &mut R, output: &mut W) -> Result<(), Failed>
+    requires { length help.now ≤ 66048 }
+    ensures { OnOk result (IfSome (R.remaining input.old) (λ bytes. Appends (W.contents output.old) (W.contents output.new) (whole_output help.now bytes))) }
+{
     let mut line = [0u8; KEPT];
     let mut work = [0u8; MOST_LENGTH];
     let mut out = [0u8; OUT];
+    let mut buffer = [0u8; CHUNK];
     let mut state = sessions::begun();
-    let mut turns = u64::MAX;
-    while turns > 0 {
-        let turn = read_once(&mut line, state, &mut work, &mut out);
-        state = turn.state;
-        let then = turn.then;
-        match then {
-            Then::More => {
-                turns -= 1;
-            }
-            Then::End => {
-                finish(&mut line, state, &mut work, &mut out);
-                return;
-            }
-            Then::Failed => {
-                return;
-            }
+    for _ in 0..u64::MAX {
+        let got = match input.read(&mut buffer) {
+            Ok(n) => n,
+            Err(e) => return Err(Failed::Input(e)),
+        };
+        if got == 0 {
+            return match finish(&mut line, state, help, &mut work, &mut out, output) {
+                Ok(()) => Ok(()),
+                Err(e) => Err(Failed::Output(e)),
+            };
         }
+        state = match answer(
+            &mut line,
+            state,
+            &buffer[..got],
+            help,
+            &mut work,
+            &mut out,
+            output,
+        ) {
+            Ok(next) => next,
+            Err(e) => return Err(Failed::Output(e)),
+        };
     }
+    Err(line_programs::too_many_reads())
 }
 
-// Who gives arguments, --help among them, is told what it does, and nothing is read. Who types the lines is told where to begin.
-fn main() {
-    if 1 < os::arg_count() {
-        io::write_all(
-            STDERR_FILENO,
-            b"console takes no arguments. It reads commands from standard input, a line each, and\n",
-        );
-        io::write_all(
-            STDERR_FILENO,
-            b"answers each on standard output. The command help lists them.\n",
+// Who gives arguments, --help among them, is told what it does, and nothing is read. Who types the lines is told where to begin. Where standard error can't be
+// written either, nobody is told.
+fn main(rt: HostRuntime) {
+    if line_programs::has_arguments(&rt) {
+        let _ = eprintln!(rt;
+            "console takes no arguments. It reads commands from standard input, a line each, and\nanswers each on standard output. The command help lists them."
         );
         return;
     }
-    if libc::isatty(STDIN_FILENO) == 1 {
-        io::write_all(
-            STDERR_FILENO,
-            b"One command a line: open 2 1, say, and then step . (help lists them, Ctrl-D ends)\n",
+    if rt.stdin().is_terminal() {
+        let _ = eprintln!(rt;
+            "One command a line: open 2 1, say, and then step . (help lists them, Ctrl-D ends)"
         );
     }
-    answer_all();
+    if let Err(failed) = answer_all(&help(), &mut rt.stdin(), &mut rt.stdout()) {
+        let _ = eprintln!(rt; "console: {failed}");
+    }
 }

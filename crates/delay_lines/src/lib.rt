@@ -1,4 +1,6 @@
 // P's delay line by words: X2 goes into P in the PRN's delay later, and the old line's bits before it.
+#![tactic(auto)]
+
 ghost use Rattle.std.specs.Prelude.{◌≡◌, ◌+◌, ◌-◌, ◌*◌, ◌/◌, ◌%◌, ◌<◌, ◌≤◌, ◌^◌};
 ghost use Rattle.starts.specs.Starts.{Listed};
 ghost use Rattle.delay_lines.specs.Lines.{delayed_word};

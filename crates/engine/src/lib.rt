@@ -1,5 +1,7 @@
 // The calls, under one name: open, seek, step and window. Each has a crate of its own, with its definition, its promise and the wrong answers that the
 // promise rules out.
+#![tactic(auto)]
+
 pub use call_open::{Opened, open};
 pub use call_seek::{Sought, seek};
 pub use call_step::{Stepped, step};

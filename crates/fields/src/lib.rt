@@ -1,6 +1,12 @@
 // The fields of a line of text: where a field ends, where the next one begins, and the number in it.
+#![tactic(auto)]
+
 ghost use Rattle.std.specs.Prelude.{◌≡◌, true, ◌≤◌, ◌-◌, length, drop};
 ghost use Rattle.fields.specs.Fields.{before, after, digit, digits, is_number, value, shorn};
+
+const SPACE: u8 = b' ';
+
+const ZERO: u8 = b'0';
 
 // How many bytes stand before the first space, or in all where there is none.
 pub fn cut(s: &[u8]) -> usize
@@ -8,7 +14,7 @@ pub fn cut(s: &[u8]) -> usize
 {
     let mut i = 0;
     while i < s.len() {
-        if s[i] == b' ' {
+        if s[i] == SPACE {
             return i;
         }
         i += 1;
@@ -87,7 +93,7 @@ pub fn leading_zeros(s: &[u8]) -> usize
 {
     let mut i = 0;
     while i + 1 < s.len() {
-        if s[i] != b'0' {
+        if s[i] != ZERO {
             return i;
         }
         i += 1;

@@ -1,5 +1,7 @@
 // One step of each generator, given that generator alone. One that is never held has no test of its mode. A start that depends on the PRN is handed
 // in, so that no table is read here.
+#![tactic(auto)]
+
 ghost use Rattle.std.specs.Prelude.{◌≡◌, false, ◌+◌, ◌<◌, ◌≤◌, ◌^◌};
 ghost use Rattle.machine.specs.declared.Mode.TheVariants.{Running};
 ghost use Rattle.machine.specs.Generators.{fresh, restarted, moved, held_with, step_in, step_generator, held_at, held_at_end};

@@ -1,4 +1,6 @@
 // A generator at any place of the week: where it stands, by division and remainder, and its register, brought there from its start by leaps.
+#![tactic(auto)]
+
 ghost use Rattle.std.specs.Prelude.{◌≡◌, ◌<◌, ◌≤◌, ◌^◌};
 ghost use Rattle.machine.specs.Signals.{week_ca, week_p, week_l2, week_l5};
 ghost use Rattle.machine.specs.Signals.{g1, g2, x1a, x1b, x2a, x2b, cm, cl, xa, xb};
@@ -55,7 +57,7 @@ fn standing(c: Course, place: u64) -> Standing
 // ---- a generator at a place
 
 // A generator, and how many leaps were made to bring it, and those before it, where they are.
-#[derive(Drop)]
+#[derive(Clone, Copy)]
 pub struct Brought {
     pub generator: Generator,
     pub count: u32,

@@ -1,4 +1,6 @@
-// Chips, the one call for C: `include/gps_chips.h` declares it. The archive that `make lib` writes has no other symbol and needs none.
+// Chips, the one call for C, which `gps_chips_c` exports.
+#![tactic(auto)]
+
 ghost use Rattle.std.specs.Prelude.{◌≡◌, length};
 ghost use Rattle.gps_chips.specs.Chips.{chips_answer, chips_buffer, by_the_machine, by_the_standards};
 
@@ -21,16 +23,18 @@ fn refusal_of(signal: u64, prn: u64, place: u64, bytes: u64) -> u32
     0
 }
 
+// What an accepted call answers.
+const ACCEPTED: u32 = 0;
+
 // Fills the whole buffer with the chips of a signal and a PRN from a place on, round the week. Answers 0, or the refusal: 1, 2, 3, or 5 for the
 // length. Refused, no byte changes.
-#[unsafe(no_mangle)]
-pub extern "C" fn gps_chips(signal: u64, prn: u64, place: u64, buffer: &mut [u8]) -> u32
+pub fn gps_chips(signal: u64, prn: u64, place: u64, buffer: &mut [u8]) -> u32
     ensures value { result ≡ chips_answer signal prn place (length buffer.old) }
     ensures buffer_after { buffer.new ≡ chips_buffer by_the_machine signal prn place buffer.old }
     ensures buffer_after_2 { buffer.new ≡ chips_buffer by_the_standards signal prn place buffer.old }
 {
     let refusal = refusal_of(signal, prn, place, buffer.len() as u64);
-    if 0 < refusal {
+    if ACCEPTED < refusal {
         return refusal;
     }
     let landed = seeks::land(signal as u32, prn as u32, place);

@@ -1,1 +1,3 @@
+#![tactic(auto)]
+
 // What the papers print of places that are known, proved of the definitions. No code.

@@ -1,4 +1,6 @@
 // The layout of the tables and of the known places: which rows, which columns, and what stands in each cell. No call of the engine. Rows and columns count from 1.
+#![tactic(auto)]
+
 ghost use Rattle.std.specs.Prelude.{◌≤◌};
 
 use machine::{LAST_CL, LAST_CM, WEEK_P};
@@ -21,7 +23,7 @@ pub const XA: u64 = 1;
 // ---- cells
 
 // What is seen of a channel.
-#[derive(Drop)]
+#[derive(Clone, Copy)]
 pub enum Field {
     // The leaps that seek told.
     Leaps,
@@ -35,7 +37,7 @@ pub enum Field {
     Hold(u64),
 }
 
-#[derive(Drop)]
+#[derive(Clone, Copy)]
 pub enum Cell {
     // As it stands.
     Shown(Value),
@@ -57,7 +59,7 @@ pub enum Cell {
 
 // ---- tables
 
-#[derive(Drop)]
+#[derive(Clone, Copy)]
 pub enum Table {
     // IS-GPS-200 3-Ia, 3-IIa, 3-VI, 3-VII, 6-III, 6-IV
     CodePhases,
@@ -127,7 +129,7 @@ fn reset_timing(row: u64, column: u64) -> Cell {
 // ---- Table 3-VII
 
 // A generator in its first cycle, and where its next cycle begins.
-#[derive(Drop)]
+#[derive(Clone, Copy)]
 struct CycleEnd {
     generator: u64,
     place: u64,

@@ -1,4 +1,6 @@
 // A line of the line program, and its reply. The four fields are cut first, and all else speaks of them.
+#![tactic(auto)]
+
 ghost use Rattle.std.specs.Prelude.{◌≡◌, cond, ◌≤◌, ◌<◌, ◌+◌, length};
 ghost use Rattle.replies.specs.Reply.{written};
 ghost use Rattle.texts.specs.Buffers.{Begins};
@@ -20,7 +22,7 @@ fn put_number(field: &[u8], out: &mut [u8], at: usize) -> usize
 }
 
 // What a line asks for.
-#[derive(Drop)]
+#[derive(Clone, Copy)]
 struct Asked {
     signal: u64,
     prn: u64,

@@ -10,7 +10,7 @@ use native.Mathlib.Nat.{mod-mod}
 use native.Mathlib.Omega.{arith}
 use lib.ListN.{length, get_or}
 use Rattle.machine.specs.Signals.{week_of, places_from}
-use Rattle.machine.specs.Machine.{opened, chips, step, is_signal, is_prn}
+use Rattle.machine.specs.Machine.{opened, chips, is_signal, is_prn}
 use Rattle.machine.specs.declared.Channel.{Channel}
 use Rattle.machine.proofs.Tests.{chosen}
 use Rattle.machine.proofs.Advance.{advance_none}

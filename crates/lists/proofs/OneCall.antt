@@ -13,7 +13,7 @@ use lib.Dec.{ltb, leb, eqb}
 use lib.ListN.{length}
 use borrow.Author.Tests.{ltb-true, ltb-false, leb-true, leb-false, lt-ltb, le-ltb, le-leb}
 use Rattle.machine.specs.Signals.{week_of, places_from}
-use Rattle.machine.specs.Machine.{opened, advance, chips, step, in_range, is_signal, is_prn}
+use Rattle.machine.specs.Machine.{opened, advance, chips, in_range, is_signal, is_prn}
 use Rattle.machine.specs.declared.Channel.{Channel}
 use Rattle.machine.proofs.Chips.{chips_one}
 use Rattle.machine.proofs.Advance.{advance_none, advance_one, advance_last, advance-add}
@@ -21,7 +21,6 @@ use Rattle.machine.proofs.RangeLaw.{reached_in}
 use Rattle.week.proofs.LawOfTheWeek.{law_of_the_week, weeks_pass}
 use Rattle.week.proofs.RoundTheWeek.{chips_round}
 use Rattle.replies.specs.Reply.{Reply, written}
-use Rattle.call_open.specs.Open.{channel}
 use Rattle.call_seek.specs.Seek.{seek_reply}
 use Rattle.call_seek.proofs.Seeks.{seek_past, seeks_accepted}
 use Rattle.call_step.specs.Step.{step_reply}

@@ -1,4 +1,6 @@
 // Numbers as words of text: written, and read back. Behind a word stands a mark.
+#![tactic(auto)]
+
 ghost use Rattle.std.specs.Prelude.{◌≡◌, ◌&&◌, ◌≤◌, ◌+◌, ◌-◌, ◌*◌, ltb, leb, length, drop};
 ghost use Rattle.fields.specs.Fields.{digit};
 ghost use Rattle.texts.specs.Buffers.{Puts};
@@ -23,7 +25,7 @@ pub fn put_number(n: u64, mark: u8, out: &mut [u8], at: usize) -> usize
 // ---- read: from `at` on. Where the number does not stand there, nothing is left to read: `end` is the text's end.
 
 // A number, and where what stands behind its mark begins.
-#[derive(Drop)]
+#[derive(Clone, Copy)]
 pub struct NumberRead {
     pub there: bool,
     pub value: u64,

@@ -1,4 +1,6 @@
 // The channel at place 0, by signal.
+#![tactic(auto)]
+
 ghost use Rattle.std.specs.Prelude.{◌≡◌, ◌≤◌};
 ghost use Rattle.starts.specs.Starts.{Listed};
 ghost use Rattle.machine.specs.Machine.{at_zero, opened_as, opened};

@@ -1,4 +1,6 @@
 // Pages: text in a slice of bytes, from which it is written out. How the tables of the standards write numbers, registers and chips, with no call of the engine.
+#![tactic(auto)]
+
 pub mod chips;
 pub mod text;
 pub mod values;

@@ -2,7 +2,7 @@
 // left out, so that no caller has to count; the comparison of the program's output would show it.
 ghost use Rattle.std.specs.Prelude.{◌<◌};
 
-use libc::STDOUT_FILENO;
+use std::io;
 
 pub fn put(page: &mut [u8], at: usize, byte: u8) -> usize {
     if at < page.len() {
@@ -44,7 +44,7 @@ pub fn pad(page: &mut [u8], at: usize, began: usize, column: usize) -> usize {
 // ---- bits
 
 // What a digit stands for: one chip or stage, three, or four.
-#[derive(Drop)]
+#[derive(Clone, Copy)]
 pub enum Digits {
     Binary,
     Octal,
@@ -93,10 +93,10 @@ pub fn put_bits(page: &mut [u8], from: usize, bits: &[u8], digits: Digits) -> us
 
 // At the right of so many columns, which a fill is put into.
 pub fn put_right(page: &mut [u8], from: usize, n: u64, width: usize, fill: u8) -> usize {
-    let mut digits = [0u8; 20];
-    let count = io::decimal(n, &mut digits);
-    let at = put_fill(page, from, fill, count, width);
-    put_text(page, at, &digits[..count])
+    let mut buffer = itoa::Buffer::new();
+    let digits = buffer.format(n).as_bytes();
+    let at = put_fill(page, from, fill, digits.len(), width);
+    put_text(page, at, digits)
 }
 
 // With a comma where groups of three are left.
@@ -116,9 +116,8 @@ fn put_groups(page: &mut [u8], from: usize, digits: &[u8]) -> usize {
 
 // With commas, as document 01 writes its numbers.
 pub fn put_grouped(page: &mut [u8], at: usize, n: u64) -> usize {
-    let mut digits = [0u8; 20];
-    let count = io::decimal(n, &mut digits);
-    put_groups(page, at, &digits[..count])
+    let mut buffer = itoa::Buffer::new();
+    put_groups(page, at, buffer.format(n).as_bytes())
 }
 
 // A word, and the number that belongs to it.
@@ -133,10 +132,10 @@ pub fn put_refused(page: &mut [u8], at: usize, refusal: u32) -> usize {
 
 // ---- the page
 
-// Whether all of the page before `end` was written to standard output, in one write where the system takes it.
-pub fn write_page(page: &[u8], end: usize) -> bool {
+// Writes all of the page before `end` to standard output, in one write where the system takes it, or says why it was not written.
+pub fn write_page(rt: &impl Print, page: &[u8], end: usize) -> io::Result<()> {
     if end <= page.len() {
-        return io::write_all(STDOUT_FILENO, &page[0..end]);
+        return rt.write_all(&page[..end]);
     }
-    false
+    Err(io::Error::from(io::ErrorKind::InvalidInput))
 }

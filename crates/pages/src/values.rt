@@ -1,7 +1,7 @@
 // Values: what a cell shows that is no chip.
 use crate::{chips, text};
 
-#[derive(Drop)]
+#[derive(Clone, Copy)]
 pub enum Word {
     // One of P's generators.
     Generator(u64),
@@ -12,7 +12,7 @@ pub enum Word {
     Another,
 }
 
-#[derive(Drop)]
+#[derive(Clone, Copy)]
 pub enum Value {
     // A number at the right of so many columns, which the byte fills.
     Right(u64, usize, u8),

@@ -1,5 +1,7 @@
 // The calls that hand back no channel as the console makes them: each with its reply as a line of text, written at the start of the buffer that is lent for
 // it. What is answered is where the line ends.
+#![tactic(auto)]
+
 ghost use Rattle.std.specs.Prelude.{◌≡◌, ◌≤◌, length};
 ghost use Rattle.places.specs.Places.{reading_reply, place_of_reply, gap_reply};
 ghost use Rattle.texts.specs.Buffers.{Begins};

@@ -1,5 +1,7 @@
 // Reading, Place of and Gap: the calls on places alone, without a channel. Whoever calls, with any numbers, gets the reply that `specs/Places.antt` sets
 // out. Numbers are tested whole before they are narrowed.
+#![tactic(auto)]
+
 ghost use Rattle.std.specs.Prelude.{◌≡◌, ◌<◌, pos, neg_ℤ, nat_abs, ◌+ℤ◌, ◌-ℤ◌};
 ghost use Rattle.std.specs.Int.{w64};
 ghost use Rattle.std.proofs.Common.{SFits};
@@ -23,7 +25,7 @@ fn epoch_chips(signal: u32) -> u64
 
 // ---- reading
 
-#[derive(Drop)]
+#[derive(Clone, Copy)]
 pub enum Read {
     // The epoch, and the chip in it.
     At(u64, u64),
@@ -51,7 +53,7 @@ pub fn reading(signal: u64, place: u64) -> Read
 
 // ---- place of
 
-#[derive(Drop)]
+#[derive(Clone, Copy)]
 pub enum Placed {
     // The place.
     At(u64),
@@ -82,7 +84,7 @@ pub fn place_of(signal: u64, epoch: u64, chip: u64) -> Placed
 
 // ---- gap
 
-#[derive(Drop)]
+#[derive(Clone, Copy)]
 pub enum Parted {
     // The signed chips from the first place to the second.
     By(i64),
@@ -145,11 +147,13 @@ pub fn gap(signal: u64, a: u64, b: u64) -> Parted
     Parted::By(chips)
 }
 
+const NO_CHIPS: i64 = 0;
+
 // How many chips a gap is, whatever its sign. With the sign it can be written as text.
 pub fn size(chips: i64) -> u64
     ensures { result ≡ nat_abs chips }
 {
-    if chips < 0 {
+    if chips < NO_CHIPS {
         return (-(chips + 1)) as u64 + 1;
     }
     chips as u64

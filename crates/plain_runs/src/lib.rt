@@ -1,5 +1,7 @@
 // A run of a signal with at most two generators and no delay line: so many steps in which each of the two goes along a stretch. What the signal lacks
 // stays as it is.
+#![tactic(auto)]
+
 ghost use Rattle.std.specs.Prelude.{◌≡◌, ◌+◌, ◌<◌};
 ghost use Rattle.machine.specs.Signals.{week_l5};
 ghost use Rattle.plain_runs.specs.Inner.{moved_by};

@@ -1,5 +1,7 @@
 // The shifts of the nine registers. A register is a number: stage k is its binary digit k - 1, so stage 1 is the lowest digit.
 // Each function is one shift; `specs/Register.antt` says what a shift is, by the list of stages that document 01 prints.
+#![tactic(auto)]
+
 ghost use Rattle.std.specs.Prelude.{◌≡◌, ◌+◌, ◌*◌, ◌%◌, ◌^◌, ◌<◌, ◌≤◌};
 ghost use Rattle.std.specs.Int.Bits.{bit_and};
 ghost use Rattle.std.specs.Int.Count.{ones};

@@ -1,5 +1,7 @@
 // A seek: the channel of a signal and PRN at any place of the week. Its generators are brought there by leaps, X2A and X2B to 37 places before, from where
 // single steps of these two fill the delay line.
+#![tactic(auto)]
+
 ghost use Rattle.std.specs.Prelude.{◌≡◌, ◌-◌, ◌<◌, ◌≤◌, ◌^◌};
 ghost use Rattle.starts.specs.Starts.{Listed};
 ghost use Rattle.machine.specs.Signals.{week_ca, week_p, week_l2, week_l5, week_of};
@@ -24,7 +26,7 @@ const LINE_BITS: u64 = 37;
 // ---- the delay line
 
 // X2A, X2B and the delay line.
-#[derive(Drop)]
+#[derive(Clone, Copy)]
 pub struct Fill {
     pub third: Generator,
     pub fourth: Generator,
@@ -70,7 +72,7 @@ fn fill_line(from: u64, place: u64, third: Generator, fourth: Generator) -> Fill
 // ---- a channel at a place
 
 // A channel, and how many leaps brought it there.
-#[derive(Drop)]
+#[derive(Clone, Copy)]
 pub struct Landed {
     pub channel: Channel,
     pub leaps: u32,

@@ -1,5 +1,7 @@
 // The chips that each register gives, one behind the other from its start on, and no end of a cycle among them: 64 to a word, the first chip as the
 // highest digit. A word of 64 chips can be read from any phase on, and a register from its next chips.
+#![tactic(auto)]
+
 ghost use Rattle.std.specs.Prelude.{◌≡◌, ◌+◌, ◌-◌, ◌/◌, ◌<◌, ◌≤◌, ◌^◌, length};
 ghost use Rattle.registers.specs.Register.{shift_g1, shift_g2, shift_x1a, shift_x1b, shift_x2a, shift_x2b, shift_xa, shift_xb};
 ghost use Rattle.starts.specs.Starts.{start_g1, start_g2, start_x1a, start_x1b, start_x2a, start_x2b, start_xa};

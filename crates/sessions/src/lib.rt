@@ -1,4 +1,6 @@
 // A session at the console: lines, fed in chunks of any size, and their answers. From line to line it keeps the channel that `.` stands for.
+#![tactic(auto)]
+
 ghost use Rattle.std.specs.Prelude.{◌≡◌, [], ◌∷◌, ◌++◌, ◌≤◌, ◌<◌, ◌+◌, length, take};
 ghost use Rattle.replies.specs.Reply.{written};
 ghost use Rattle.texts.specs.Buffers.{Begins};
@@ -9,6 +11,9 @@ use answer_lines::{Answered, ROOM};
 use commands::Command;
 use machine::{Channel, Generator, Mode};
 use words::Last;
+
+// So many bytes has a line of which none has come.
+const EMPTY: usize = 0;
 
 // ---- a line
 
@@ -90,7 +95,7 @@ fn answer(line: &[u8], last: Last, help: &[u8], work: &mut [u8], out: &mut [u8])
 pub const KEPT: usize = 1024;
 
 // How many bytes are kept of the line that has no newline yet, and what `.` stands for.
-#[derive(Drop)]
+#[derive(Clone, Copy)]
 pub struct State {
     pub len: usize,
     pub last: Last,
@@ -173,7 +178,7 @@ fn end_line(
     }
 }
 
-#[derive(Drop)]
+#[derive(Clone, Copy)]
 pub struct Turned {
     pub state: State,
     pub n: usize,
@@ -216,7 +221,7 @@ fn turn(
 }
 
 // What feeding a chunk leaves: the state, how many bytes of the chunk were taken, and how many of the buffer were written.
-#[derive(Drop)]
+#[derive(Clone, Copy)]
 pub struct Fed {
     pub state: State,
     pub used: usize,
@@ -266,7 +271,7 @@ pub fn finish(line: &mut [u8], state: State, help: &[u8], work: &mut [u8], out: 
     requires in_bounds_2 { 66048 ≤ length out.old }
     ensures { Begins (last_answer help.now (talk line.old state)) out.old out.new result }
 {
-    if state.len == 0 {
+    if state.len == EMPTY {
         return 0;
     }
     let answered = end_line(line, state, help, work, out, 0);

@@ -1,1 +1,3 @@
+#![tactic(auto)]
+
 // The chips as the standards write them, and that the stepped machine gives them. No code.

@@ -6,7 +6,7 @@ use pages::text;
 const MARK: u8 = b'#';
 
 // Whose marks a form has. They count from 1.
-#[derive(Drop)]
+#[derive(Clone, Copy)]
 enum Marks {
     // The rows of a table.
     Tables,

@@ -1,5 +1,7 @@
 // Where each register starts, and the two stages of G2 that a PRN's C/A code adds. A table is written anew wherever it is named, so each is named
 // once, in the function that reads a PRN's entry.
+#![tactic(auto)]
+
 ghost use Rattle.std.specs.Prelude.{◌≡◌, ◌<◌};
 ghost use Rattle.starts.specs.Starts.{Listed, start_g1, start_g2, start_xa, start_x1a, start_x1b, start_x2a, start_x2b};
 ghost use Rattle.starts.specs.Inner.{Pairs};
@@ -8,7 +10,7 @@ ghost use Rattle.starts.specs.Starts.{stages_of, start_cm, start_cl, start_i5, s
 mod tables;
 
 // Two stages of G2, counted from 1.
-#[derive(Drop)]
+#[derive(Clone, Copy)]
 pub struct Stages {
     pub first: u32,
     pub second: u32,

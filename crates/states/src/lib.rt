@@ -1,4 +1,6 @@
 // What the calls say of a channel: as open gives it, at a place that seek brings it to, and a step on. And what lies between two places.
+#![tactic(auto)]
+
 use engine::{Opened, Sought, Stepped};
 use layout::Field;
 use machine::{Channel, Generator, Mode};
@@ -59,7 +61,7 @@ fn seen(leaps: u32, ch: Channel, what: Field) -> Value {
 // ---- places
 
 // Where open, or open and seek, led.
-#[derive(Drop)]
+#[derive(Clone, Copy)]
 pub enum Reached {
     At(u32, Channel),
     Refused(u32),

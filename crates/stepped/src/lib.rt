@@ -1,6 +1,8 @@
 // Windows step by step: the chips of so many steps of a channel in range, written to the front of a slice, and the channel so many steps on. Each
 // family of signals has a loop of its own, so that signal, PRN and starts are looked at once a window and not once a chip. Short windows are written
 // so, the chips between two runs, and windows of C/A channels whose registers are not the ones of their phases.
+#![tactic(auto)]
+
 ghost use Rattle.std.specs.Prelude.{◌≡◌, ◌++◌, ◌≤◌, length, drop};
 ghost use Rattle.starts.specs.Starts.{stages_of};
 ghost use Rattle.machine.specs.Signals.{signal_ca, signal_p, from_cm, from_cl, from_l5};

@@ -1,5 +1,6 @@
 -- EVERY INPUT of the line program, and its whole output.
 --     in_order      the output is the replies of the input's lines, in order, and `refused 9` for what follows the last newline, if that has a byte
+--     saying_more   what is said to a chunk and then to the rest of the input
 --     any_chunks    it is the same however the input is cut: what the promises of `feed` and `finish` say of chunk after chunk, put together
 -- Assumes nothing.
 use Prim.Native.Nat.{ℕ}
@@ -12,7 +13,7 @@ use Rattle.streams.proofs.Streams.{other_next, other_said, kept_said, kept_next,
 use Rattle.texts.proofs.Saying.{Plain, replies-append, rest-append}
 
 -- what is still to be said, where a line has begun with some bytes
-abbrev saying : List ℕ → List ℕ → List ℕ
+abbrev pub saying : List ℕ → List ℕ → List ℕ
 saying line input = replies line input ++ last_reply (rest line input)
 
 -- ---- line after line
@@ -57,20 +58,32 @@ fed_with held [] = last_reply held
 fed_with held (chunk ∷ chunks) = replies held chunk ++ fed_with (kept (rest held chunk)) chunks
 
 -- the bytes kept stand for the line
-kept_replies : (line bs : List ℕ) → replies (kept line) bs ≡ replies line bs
+pub kept_replies : (line bs : List ℕ) → replies (kept line) bs ≡ replies line bs
 kept_replies line [] = refl
 kept_replies line (b ∷ bs) =
     ap₂ (λ (x y : List ℕ). x ++ y) (kept_said line b)
     (sym (kept_replies (next (kept line) b) bs) ∙ ap (λ (l : List ℕ). replies l bs) (kept_next line b) ∙ kept_replies (next line b) bs)
 
-kept_rest : (line bs : List ℕ) → kept (rest (kept line) bs) ≡ kept (rest line bs)
+pub kept_rest : (line bs : List ℕ) → kept (rest (kept line) bs) ≡ kept (rest line bs)
 kept_rest line [] = kept_twice line
 kept_rest line (b ∷ bs) =
     sym (kept_rest (next (kept line) b) bs) ∙ ap (λ (l : List ℕ). kept (rest l bs)) (kept_next line b) ∙ kept_rest (next line b) bs
 
-kept_last : (line : List ℕ) → last_reply (kept line) ≡ last_reply line
+pub kept_last : (line : List ℕ) → last_reply (kept line) ≡ last_reply line
 kept_last [] = refl
 kept_last (b ∷ bs) = refl
+
+-- what is still to be said, from the bytes kept and after a chunk
+kept_saying : (line input : List ℕ) → saying (kept line) input ≡ saying line input
+kept_saying line input =
+    ap₂ (λ (x y : List ℕ). x ++ y) (kept_replies line input)
+    (sym (kept_last (rest (kept line) input)) ∙ ap last_reply (kept_rest line input) ∙ kept_last (rest line input))
+
+pub saying_more : (line chunk input : List ℕ) → replies line chunk ++ saying (kept (rest line chunk)) input ≡ saying line (chunk ++ input)
+saying_more line chunk input =
+    ap (λ (l : List ℕ). replies line chunk ++ l) (kept_saying (rest line chunk) input)
+    ∙ sym (append_assoc (replies line chunk) (replies (rest line chunk) input) (last_reply (rest (rest line chunk) input)))
+    ∙ ap₂ (λ (x y : List ℕ). x ++ last_reply y) (sym (replies-append next said line chunk input)) (sym (rest-append next line chunk input))
 
 fed_on : (line : List ℕ) (chunks : List (List ℕ)) → fed_with (kept line) chunks ≡ saying line (whole chunks)
 fed_on line [] = kept_last line

@@ -1,4 +1,6 @@
 // A stream of lines, fed in chunks of any size, and its replies.
+#![tactic(auto)]
+
 ghost use Rattle.std.specs.Prelude.{◌≡◌, [], ◌∷◌, ◌++◌, ◌≤◌, ◌<◌, ◌+◌, length, take};
 ghost use Rattle.replies.specs.Reply.{written};
 ghost use Rattle.texts.specs.Buffers.{Begins};
@@ -8,11 +10,16 @@ ghost use Rattle.streams.specs.Stream.{next, said, rest, replies, last_reply, ke
 // So many bytes of a line are kept, one more than the longest well-formed line has: four numbers of 13 digits and three spaces.
 const KEPT: usize = 56;
 
+const NEWLINE: u8 = b'\n';
+
+// So many bytes has a line of which none has come.
+const EMPTY: usize = 0;
+
 // Every reply fits in so many bytes.
 const ROOM: usize = 128;
 
 // The line that has no newline yet, or as much of it as is kept: a line of any length takes no more memory.
-#[derive(Drop)]
+#[derive(Clone, Copy)]
 pub struct Pending {
     pub bytes: [u8; KEPT],
     pub len: usize,
@@ -59,7 +66,7 @@ fn ended(s: Pending, out: &mut [u8], n: usize) -> usize
     n + k
 }
 
-#[derive(Drop)]
+#[derive(Clone, Copy)]
 struct Turned {
     state: Pending,
     n: usize,
@@ -72,7 +79,7 @@ fn turn(s: Pending, b: u8, out: &mut [u8], n: usize) -> Turned
     ensures n_value { result.n ≡ n + length (said (held s) b) }
     ensures out_after { out.new ≡ written n (said (held s) b) out.old }
 {
-    if b == b'\n' {
+    if b == NEWLINE {
         let end = ended(s, out, n);
         return Turned {
             state: empty(),
@@ -86,7 +93,7 @@ fn turn(s: Pending, b: u8, out: &mut [u8], n: usize) -> Turned
 }
 
 // What feeding a chunk leaves: the state, how many bytes of the chunk were taken, and how many of the buffer were written.
-#[derive(Drop)]
+#[derive(Clone, Copy)]
 pub struct Fed {
     pub state: Pending,
     pub used: usize,
@@ -127,7 +134,7 @@ pub fn feed(s: Pending, input: &[u8], out: &mut [u8]) -> Fed
 pub fn finish(s: Pending, out: &mut [u8; 10]) -> usize
     ensures { Begins (last_reply (held s)) out.old out.new result }
 {
-    if s.len == 0 {
+    if s.len == EMPTY {
         return 0;
     }
     texts::refused(9, out)

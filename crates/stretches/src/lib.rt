@@ -1,5 +1,7 @@
 // A stretch of one generator: steps in which it neither begins a cycle anew nor is held or let go. It shifts all along, and its chips stand in its
 // table one behind the other; or it is held all along, and gives the same chip. `proofs/LawOfRuns.antt` says so once for every generator.
+#![tactic(auto)]
+
 ghost use Rattle.std.specs.Prelude.{◌≡◌, ◌+◌, ◌-◌, ◌/◌, ◌<◌, ◌≤◌, ◌^◌, length, eqb};
 ghost use Rattle.sequences.specs.Sequences.{word_in};
 ghost use Rattle.stretches.specs.Stretches.{stretch, Within, word_at, ahead};

@@ -1,4 +1,6 @@
 // Text written to a buffer: bytes, chips, a refusal. Each public function answers where it ended.
+#![tactic(auto)]
+
 ghost use Rattle.std.specs.Prelude.{◌≡◌, map, ◌≤◌, ◌+◌, length};
 ghost use Rattle.replies.specs.Reply.{written};
 ghost use Rattle.texts.specs.Texts.{refused_line, chip_digit};
@@ -10,8 +12,9 @@ pub fn put(src: &[u8], out: &mut [u8], at: usize) -> usize
     ensures value { result ≡ at + length src.now }
     ensures out_after { out.new ≡ written at src.now out.old }
 {
-    bytes::copy(src, &mut out[at..]);
-    at + src.len()
+    let end = at + src.len();
+    out[at..end].copy_from_slice(src);
+    end
 }
 
 fn chip_digit(chip: u8) -> u8

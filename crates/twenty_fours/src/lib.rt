@@ -1,5 +1,7 @@
 // The chips of an L2 register, twenty-four at a time. A register is the sum bit by bit of its digits, and what it gives is the sum of what they give:
 // its six lowest hexadecimal digits are looked up, and the rest has merely moved down when twenty-four chips are given.
+#![tactic(auto)]
+
 ghost use Rattle.std.specs.Prelude.{◌≡◌, ◌++◌, ◌*◌, ◌%◌, ◌<◌, ◌≤◌, ◌^◌, length, drop};
 ghost use Rattle.registers.specs.Register.{shift_l2};
 ghost use Rattle.registers.specs.Times.{times};

@@ -1,5 +1,7 @@
 // How each generator goes through the week: `specs/Standing.antt` says where it stands at a place, by division and remainder, and `proofs/` shows
 // that the stepped machine stands there.
+#![tactic(auto)]
+
 ghost use Rattle.std.specs.Prelude.{◌≡◌, ◌+◌, ◌*◌, ◌<◌, ◌^◌};
 ghost use Rattle.machine.specs.Signals.{week_l5};
 ghost use Rattle.week.specs.Week.{unheld, held, course_g, course_x1a, course_x1b, course_x2a, course_x2b, course_cm, course_cl, course_xa, course_xb};
@@ -7,7 +9,7 @@ ghost use Rattle.week.specs.Week.{unheld, held, course_g, course_x1a, course_x1b
 use machine::Mode;
 
 // How a generator goes through the week, in chips.
-#[derive(Drop)]
+#[derive(Clone, Copy)]
 pub struct Course {
     // A whole cycle.
     pub cycle: u64,
@@ -22,7 +24,7 @@ pub struct Course {
 }
 
 // A generator without its register.
-#[derive(Drop)]
+#[derive(Clone, Copy)]
 pub struct Standing {
     pub phase: u32,
     pub cycles: u32,

@@ -1,4 +1,6 @@
 // Windows of any signal: the chips of so many steps of a channel in range, written to the front of a slice, and the channel so many steps on.
+#![tactic(auto)]
+
 ghost use Rattle.std.specs.Prelude.{◌≡◌, ◌++◌, ◌≤◌, length, drop};
 ghost use Rattle.machine.specs.Machine.{advance, chips};
 ghost use Rattle.machine.specs.Ranged.{Ranged};

@@ -1,6 +1,8 @@
 // Windows of C/A at memory speed. G1 and G2 come round by themselves, 1,023 shifts after their start, so that the end of a cycle is no event for their
 // registers: the first 1,023 chips are added up from words of their tables, and each further chip is the one 1,023 places before it. This needs each
 // register to be the one of its phase, which is tested; other channels are stepped.
+#![tactic(auto)]
+
 ghost use Rattle.std.specs.Prelude.{◌≡◌, true, ◌++◌, ◌+◌, ◌-◌, ◌/◌, ◌%◌, ◌<◌, ◌≤◌, ◌^◌, length, drop};
 ghost use Rattle.starts.specs.Starts.{stages_of};
 ghost use Rattle.machine.specs.Signals.{signal_ca};

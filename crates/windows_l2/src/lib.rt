@@ -1,5 +1,7 @@
 // Windows of L2 CM and L2 CL, twenty-four chips at a time as long as the generator is not at the end of its cycle. There, and for the window's last chips,
 // single steps. Each of the two has one generator, and the generators that it lacks stay as they are.
+#![tactic(auto)]
+
 ghost use Rattle.std.specs.Prelude.{◌≡◌, true, false, ◌++◌, ◌+◌, ◌*◌, ◌%◌, ◌<◌, ◌≤◌, ◌^◌, length, drop};
 ghost use Rattle.digits.specs.Digits.{row, bytes_of};
 ghost use Rattle.twenty_fours.specs.TwentyFours.{table_l2};

@@ -13,7 +13,7 @@ use native.Mathlib.Omega.{arith}
 use lib.Dec.{eqb, lit<, lit≤}
 use lib.ListN.{length}
 use Rattle.registers.specs.Times.{times}
-use Rattle.registers.specs.Register.{shift, shift_xa, shift_xb, taps_xa, taps_xb}
+use Rattle.registers.specs.Register.{shift_xa, shift_xb, taps_xa, taps_xb}
 use Rattle.starts.specs.Starts.{start_xa}
 use Rattle.machine.specs.Signals.{xa, xb, week_l5, from_l5, chip_l5}
 use Rattle.machine.specs.Machine.{advance, chips}

@@ -1,6 +1,8 @@
 // Windows of I5 and Q5 at memory speed: runs of chips in which neither XA nor XB begins a cycle anew, added up from words of their tables, and single
 // steps between them. XB has one table from all ones, in which a PRN begins at its advance. A run needs each register to be the one of its phase, which
 // is tested; other channels are stepped.
+#![tactic(auto)]
+
 ghost use Rattle.std.specs.Prelude.{◌≡◌, true, ◌++◌, ◌*◌, ◌/◌, ◌<◌, ◌≤◌, length, drop};
 ghost use Rattle.std.specs.Int.Bits.{bit_xor};
 ghost use Rattle.starts.specs.Starts.{Listed, start_i5, start_q5};

@@ -1,5 +1,7 @@
 // Windows of P at memory speed: runs of chips in which no generator begins a cycle anew, is held or let go, added up from words of the generators'
 // tables, and single steps between them. A run needs each register to be the one of its phase, which is tested; other channels are stepped.
+#![tactic(auto)]
+
 ghost use Rattle.std.specs.Prelude.{◌≡◌, true, ◌++◌, ◌*◌, ◌/◌, ◌<◌, ◌≤◌, length, drop};
 ghost use Rattle.std.specs.Int.Bits.{bit_xor};
 ghost use Rattle.machine.specs.Signals.{signal_p};

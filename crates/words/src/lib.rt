@@ -1,4 +1,6 @@
 // Channels as words of text: written, and read back.
+#![tactic(auto)]
+
 ghost use Rattle.std.specs.Prelude.{◌≡◌, ◌≤◌, ◌+◌, length, drop};
 ghost use Rattle.machine.specs.declared.Mode.TheVariants as modes;
 ghost use Rattle.texts.specs.Buffers.{Puts};
@@ -67,7 +69,7 @@ pub fn put_channel(ch: Channel, mark: u8, out: &mut [u8], at: usize) -> usize
 // ---- words read: each of these reads from `at` on. Where the word does not stand there, nothing is left to read: `end` is the text's end.
 
 // A generator's mode, and where what stands behind its mark begins.
-#[derive(Drop)]
+#[derive(Clone, Copy)]
 pub struct ModeRead {
     pub there: bool,
     pub mode: Mode,
@@ -136,7 +138,7 @@ fn read_mode(text: &[u8], at: usize, mark: u8) -> ModeRead
 }
 
 // A generator, and where what stands behind its mark begins.
-#[derive(Drop)]
+#[derive(Clone, Copy)]
 pub struct GeneratorRead {
     pub there: bool,
     pub generator: Generator,
@@ -166,7 +168,7 @@ fn read_generator(text: &[u8], at: usize, mark: u8) -> GeneratorRead
 }
 
 // A channel, and where what stands behind its mark begins.
-#[derive(Drop)]
+#[derive(Clone, Copy)]
 pub struct ChannelRead {
     pub there: bool,
     pub channel: Channel,
@@ -174,7 +176,7 @@ pub struct ChannelRead {
 }
 
 // What the word `.` stands for: the channel that the last call handed back, once an open was accepted.
-#[derive(Drop)]
+#[derive(Clone, Copy)]
 pub struct Last {
     pub opened: bool,
     pub channel: Channel,

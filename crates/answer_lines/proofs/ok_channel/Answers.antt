@@ -1,0 +1,13 @@
+-- `answer_lines::ok_channel` meets its contract.
+-- Assumes nothing.
+use mathlib.Core.List.{[], ◌∷◌}
+use Rattle.words.specs.Words.{channel_word}
+use Rattle.answer_lines.proofs.Lines.{two_words}
+use Rattle.answer_lines.proofs.ok_channel.Goals as goal
+
+pub returns : goal.returns
+returns c =
+    let a = c.args in
+    let ok = c.put-end in
+    let word = c.put_channel in
+    two_words (111 ∷ 107 ∷ 32 ∷ []) (channel_word 10 a.ch) ok.result word.result a.out.now ok.new.out word.new.out (ok.ensures.value, ok.ensures.out_after) word.ensures

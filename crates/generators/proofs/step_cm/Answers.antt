@@ -1,0 +1,13 @@
+-- `generators::step_cm` meets its contract.
+-- Assumes nothing.
+use mathlib.Core.Path.{◌∙◌, refl}
+use mathlib.Core.Bool.{false}
+use Rattle.machine.specs.Signals.{cm}
+use Rattle.machine.proofs.Running.{steps_running}
+use Rattle.generators.proofs.step_cm.Goals as goal
+
+pub returns : goal.returns
+returns c =
+    let start = c in
+    rw c.shift_l2.ensures at c.step_running.ensures
+    ∙ steps_running (cm c.args.start) false c.args.g c.requires.mode_in refl

@@ -1,0 +1,36 @@
+-- `generators_at::seek_g1` meets its contract.
+-- Assumes nothing.
+use mathlib.Core.Path.{ap, ◌∙◌, subst⁻¹}
+use Prim.Native.Nat.{ℕ, ◌<◌, ◌^◌}
+use lib.Dec.{lit<, lit≤}
+use Rattle.machine.specs.Signals.{g1}
+use Rattle.week.specs.declared.Course.{Course}
+use Rattle.week.specs.Standing.{standing_at}
+use Rattle.week.specs.Week.{course_g}
+use Rattle.generators_at.specs.Inner.{Fits}
+use Rattle.generators_at.proofs.Phases.{fitting, fits, leap_asks, brought_is}
+use Rattle.generators_at.proofs.seek_g1.Goals as goal
+
+pub standing-at-requires : goal.standing-at-requires
+unfolding fitting
+standing-at-requires c =
+    let place = c.args.place in
+    subst⁻¹ (λ (k : Course). Fits k place) c.course_g.ensures (fits course_g tt place c.requires.place_in)
+
+pub leap_g1-requires : goal.leap_g1-requires
+leap_g1-requires c =
+    let a = c.args in
+    leap_asks course_g 10 10 a.place a.count c.start_g1.result c.standing-at.result
+    (c.standing-at.ensures ∙ ap (λ (k : Course). standing_at k a.place) c.course_g.ensures)
+    (lit< tt) (lit≤ tt)
+    (subst⁻¹ (λ (r : ℕ). r < 2 ^ 10) c.start_g1.ensures (lit< tt))
+    c.requires.count_in
+
+pub returns : goal.returns
+returns c =
+    let a = c.args in
+    c.placed.ensures
+    ∙ brought_is g1 course_g a.place a.count c.start_g1.result c.standing-at.result c.leap_g1.result
+    (c.standing-at.ensures ∙ ap (λ (k : Course). standing_at k a.place) c.course_g.ensures)
+    c.start_g1.ensures
+    c.leap_g1.ensures

@@ -1,0 +1,33 @@
+-- `generators_at::seek_xb` meets its contract.
+-- Assumes nothing.
+use mathlib.Core.Path.{refl, ap, ◌∙◌, subst⁻¹}
+use lib.Dec.{lit<, lit≤}
+use Rattle.machine.specs.Signals.{xb}
+use Rattle.week.specs.declared.Course.{Course}
+use Rattle.week.specs.Standing.{standing_at}
+use Rattle.week.specs.Week.{course_xb}
+use Rattle.generators_at.specs.Inner.{Fits}
+use Rattle.generators_at.proofs.Phases.{fitting, fits, leap_asks, brought_is}
+use Rattle.generators_at.proofs.seek_xb.Goals as goal
+
+pub standing-at-requires : goal.standing-at-requires
+unfolding fitting
+standing-at-requires c =
+    let place = c.args.place in
+    subst⁻¹ (λ (k : Course). Fits k place) c.course_xb.ensures (fits course_xb tt place c.requires.asked.place_in)
+
+pub leap_xb-requires : goal.leap_xb-requires
+leap_xb-requires c =
+    let a = c.args in
+    leap_asks course_xb 13 13 a.place a.count a.start c.standing-at.result
+    (c.standing-at.ensures ∙ ap (λ (k : Course). standing_at k a.place) c.course_xb.ensures)
+    (lit< tt) (lit≤ tt) c.requires.start_bound c.requires.asked.count_in
+
+pub returns : goal.returns
+returns c =
+    let a = c.args in
+    c.placed.ensures
+    ∙ brought_is (xb a.start) course_xb a.place a.count a.start c.standing-at.result c.leap_xb.result
+    (c.standing-at.ensures ∙ ap (λ (k : Course). standing_at k a.place) c.course_xb.ensures)
+    refl
+    c.leap_xb.ensures

@@ -1,0 +1,16 @@
+// The call for C: `include/gps_chips.h` declares it. The archive that `make lib` writes has no other symbol and needs none.
+#![tactic(auto)]
+
+ghost use Rattle.std.specs.Prelude.{◌≡◌, length};
+ghost use Rattle.gps_chips.specs.Chips.{chips_answer, chips_buffer, by_the_machine, by_the_standards};
+
+// Fills the whole buffer with the chips of a signal and a PRN from a place on, round the week. Answers 0, or the refusal: 1, 2, 3, or 5 for the
+// length. Refused, no byte changes.
+#[unsafe(no_mangle)]
+pub extern "C" fn gps_chips(signal: u64, prn: u64, place: u64, buffer: &mut [u8]) -> u32
+    ensures value { result ≡ chips_answer signal prn place (length buffer.old) }
+    ensures buffer_after { buffer.new ≡ chips_buffer by_the_machine signal prn place buffer.old }
+    ensures buffer_after_2 { buffer.new ≡ chips_buffer by_the_standards signal prn place buffer.old }
+{
+    gps_chips::gps_chips(signal, prn, place, buffer)
+}

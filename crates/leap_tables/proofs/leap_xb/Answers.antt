@@ -1,0 +1,12 @@
+-- `leap_tables::leap_xb` meets its contract, by the law of leaps: `tt` is the rule of XB's table, tested over all of its 169 numbers.
+-- Assumes nothing.
+use Rattle.registers.specs.Register.{stage, sum_of, shift}
+use Rattle.registers.specs.Row.{combine}
+use Rattle.registers.proofs.Linear.{columns}
+use Rattle.registers.proofs.Shifts.{xb}
+use Rattle.leaps.proofs.LawOfLeaps.{by_table}
+use Rattle.leap_tables.proofs.leap_xb.Goals as goal
+
+pub returns : goal.returns
+unfolding combine columns stage sum_of shift
+returns c = by_table xb 13 _ tt c.requires c.leap_to.ensures

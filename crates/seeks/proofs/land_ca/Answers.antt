@@ -1,0 +1,24 @@
+-- `seeks::land_ca` meets its contract.
+-- Assumes nothing.
+use mathlib.Core.Path.{ap, ◌∙◌}
+use native.Mathlib.Omega.{arith}
+use lib.Dec.{lit<, lit≤}
+use Rattle.machine.specs.Signals.{week_ca, g1, g2}
+use Rattle.week.specs.Week.{course_g}
+use Rattle.generators_at.specs.declared.Brought.{Brought}
+use Rattle.seeks.proofs.Landing.{counts_few, plain_landed_lem}
+use Rattle.seeks.proofs.land_ca.Goals as goal
+
+pub seek_g2-g2-requires : goal.seek_g2-g2-requires
+seek_g2-g2-requires c =
+    let few = counts_few g1 course_g c.args.place 0 10 c.seek_g1-g1.result c.seek_g1-g1.ensures (lit< tt) (lit≤ tt) in
+    record { place_in = c.requires; count_in = omega (arith, few) }
+
+pub returns : goal.returns
+returns c =
+    let a = c.args in
+    c.plain_at.ensures
+    ∙ plain_landed_lem week_ca g1 g2 course_g course_g _ a.signal a.prn a.place c.requires _ _ _
+    (ap (λ (x : Brought). x.generator) c.seek_g1-g1.ensures)
+    (ap (λ (x : Brought). x.generator) c.seek_g2-g2.ensures)
+    (omega (arith, ap (λ (x : Brought). x.count) c.seek_g1-g1.ensures, ap (λ (x : Brought). x.count) c.seek_g2-g2.ensures))

@@ -1,0 +1,15 @@
+-- `windows_l5::write_words` meets its contract.
+-- Assumes nothing.
+use Prim.Native.Nat.{◌-◌, ◌*◌, ◌/◌, ◌%◌}
+use mathlib.Core.Path.{◌≡◌}
+use Rattle.digits.proofs.Rows.{Filled}
+use Rattle.windows_l5.specs.Runs.{chip_along}
+use Rattle.windows_l5.proofs.write_words.Given as goal
+
+abbrev pub invariant-loop-i : goal.invariant-loop-i
+invariant-loop-i l =
+    Filled (chip_along l.start l.ch) (l.n / 64 * 64) l.initial.out l.out l.i × (l.i % 64 ≡ 0)
+
+abbrev pub decreases-loop-i : goal.decreases-loop-i
+decreases-loop-i l =
+    l.n - l.i
