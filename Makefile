@@ -4,7 +4,7 @@
 
 .PHONY: run codes console lib bench soak test install uninstall places
 
-# Two rt at once would write the same proofs. rt takes the processors by itself (RT_JOBS).
+# Two rt at once would write the same proofs. rt takes the processors by itself.
 .NOTPARALLEL:
 
 archive := target/staticlib/libgps_chips.a
@@ -77,7 +77,8 @@ INCLUDEDIR ?= $(PREFIX)/include
 MANDIR ?= $(PREFIX)/share/man
 
 programs := target/bin/codes target/bin/console
-sources := $(shell find crates crates.txt)
+# What rt keeps of its work, in crates/NAME/out, is no source.
+sources := crates.txt $(shell find crates -mindepth 2 -name out -prune -o -print)
 installed = $(BINDIR)/codes $(BINDIR)/console $(INCLUDEDIR)/gps_chips.h $(LIBDIR)/libgps_chips.a $(LIBDIR)/pkgconfig/gps_chips.pc \
 	$(MANDIR)/man1/codes.1 $(MANDIR)/man1/console.1 $(MANDIR)/man3/gps_chips.3
 

@@ -24,8 +24,8 @@
  * L2 CM and L2 CL are two signals here, each with its own places. On the air
  * their chips take turns: CM's place n is sent first, then CL's place n.
  *
- * Linking. The archive has this one function and needs nothing else, no C
- * library either. Where it was built, and where it is installed:
+ * Linking. The archive has this one function and needs no other but memset,
+ * which every C library has. Where it was built, and where it is installed:
  *
  *     cc prog.c -Iinclude target/staticlib/libgps_chips.a
  *     cc prog.c $(pkg-config --cflags --libs gps_chips)

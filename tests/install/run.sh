@@ -148,9 +148,9 @@ check_refused() {
 check_building() {
     local ask
     makes -n install PREFIX="$prefix"
-    ! grep -q 'rt check\|rt staticlib' "$out/log" || fail "make install asks rt though all is built: $(cat "$out/log")"
+    ! grep -q 'rt lib\|rt run' "$out/log" || fail "make install asks rt though all is built: $(cat "$out/log")"
     makes -n install PREFIX="$prefix" -W crates.txt
-    for ask in 'rt staticlib gps_chips' 'rt check codes' 'rt check console'; do
+    for ask in 'cd crates/gps_chips_c && rt lib' 'cd crates/codes && rt run' 'cd crates/console && rt run'; do
         grep -qF "$ask" "$out/log" || fail "make install with older things: expected '$ask', got: $(cat "$out/log")"
     done
     echo "install: asks rt for what is older than its sources, and for nothing else"

@@ -59,12 +59,12 @@ seek_forgets ch old place e f s p h =
     ∙ ap₂ (λ (n i : ℕ). sought_with (leaps_to n i place) (advance place (opened n i))) s p
     ∙ sym (seek_accepted old place f (subst (λ (n : ℕ). place < week_of n) s h))
 
-module _ (signal prn : ℕ) (is_signal_lem : is_signal signal ≡ true) (is_prn_lem : is_prn prn ≡ true) where
+module _ (signal prn : ℕ) (signal_ok : is_signal signal ≡ true) (prn_ok : is_prn prn ≡ true) where
   pub seeks_accepted : (n place : ℕ) → place < week_of signal
       → seek_reply (advance n (opened signal prn)) place ≡ sought_with (leaps_to signal prn place) (advance place (opened signal prn))
   seeks_accepted n place h =
       let here = advance n (opened signal prn) in
       let same-signal : here.signal ≡ signal = ap (λ (ch : Channel). ch.signal) (law_of_the_week signal prn n) in
       let same-prn : here.prn ≡ prn = ap (λ (ch : Channel). ch.prn) (law_of_the_week signal prn n) in
-      seek_accepted here place (reached_in signal prn n is_signal_lem is_prn_lem) (subst (λ (s : ℕ). place < week_of s) (sym same-signal) h)
+      seek_accepted here place (reached_in signal prn n signal_ok prn_ok) (subst (λ (s : ℕ). place < week_of s) (sym same-signal) h)
       ∙ ap₂ (λ (s i : ℕ). sought_with (leaps_to s i place) (advance place (opened s i))) same-signal same-prn

@@ -30,6 +30,6 @@ steps_accepted signal prn n s p =
 
 pub chip_there : (signal prn : ℕ) → is_signal signal ≡ true → is_prn prn ≡ true → (place : ℕ) → place < week_of signal
     → (step_reply (advance place (opened signal prn))).chips ≡ standard signal prn place ∷ []
-chip_there signal prn is_signal_lem is_prn_lem place h =
-    ap (λ (r : Reply). r.chips) (steps_accepted signal prn place is_signal_lem is_prn_lem)
-    ∙ ap (λ (b : ℕ). b ∷ []) (every_chip signal prn place is_signal_lem is_prn_lem ∙ ap (standard signal prn) (mod-eq_of_lt h))
+chip_there signal prn signal_ok prn_ok place h =
+    ap (λ (r : Reply). r.chips) (steps_accepted signal prn place signal_ok prn_ok)
+    ∙ ap (λ (b : ℕ). b ∷ []) (every_chip signal prn place signal_ok prn_ok ∙ ap (standard signal prn) (mod-eq_of_lt h))

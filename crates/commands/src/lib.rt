@@ -3,7 +3,7 @@
 
 ghost use Rattle.std.specs.Prelude.{◌≡◌, ◌≤◌, length, drop};
 ghost use Rattle.words.specs.Words.{of_channel};
-ghost use Rattle.commands.specs.Commands.{begins as Commands·begins, read_named, read_open, read_seek, read_step, read_window, read_chips, read_reading, read_place_of, read_gap, command_of};
+ghost use Rattle.commands.specs.Commands.{begins, read_named, read_open, read_seek, read_step, read_window, read_chips, read_reading, read_place_of, read_gap, command_of};
 
 use machine::Channel;
 use words::{ChannelRead, Last};
@@ -28,7 +28,7 @@ pub enum Command {
 
 // Whether a text begins with a word.
 fn begins(text: &[u8], word: &[u8]) -> bool
-    ensures { result ≡ Commands·begins word.now text.now }
+    ensures { result ≡ begins word.now text.now }
 {
     let mut i = 0;
     while i < word.len() {

@@ -29,9 +29,9 @@ const ACCEPTED: u32 = 0;
 // Fills the whole buffer with the chips of a signal and a PRN from a place on, round the week. Answers 0, or the refusal: 1, 2, 3, or 5 for the
 // length. Refused, no byte changes.
 pub fn gps_chips(signal: u64, prn: u64, place: u64, buffer: &mut [u8]) -> u32
-    ensures value { result ≡ chips_answer signal prn place (length buffer.old) }
-    ensures buffer_after { buffer.new ≡ chips_buffer by_the_machine signal prn place buffer.old }
-    ensures buffer_after_2 { buffer.new ≡ chips_buffer by_the_standards signal prn place buffer.old }
+    ensures answer { result ≡ chips_answer signal prn place (length buffer.old) }
+    ensures chips_by_the_machine { buffer.new ≡ chips_buffer by_the_machine signal prn place buffer.old }
+    ensures chips_by_the_standards { buffer.new ≡ chips_buffer by_the_standards signal prn place buffer.old }
 {
     let refusal = refusal_of(signal, prn, place, buffer.len() as u64);
     if ACCEPTED < refusal {

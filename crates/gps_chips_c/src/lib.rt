@@ -1,4 +1,4 @@
-// The call for C: `include/gps_chips.h` declares it. The archive that `make lib` writes has no other symbol and needs none.
+// The call for C: `include/gps_chips.h` declares it. The archive that `make lib` writes has no other symbol, and needs none but C's memset.
 #![tactic(auto)]
 
 ghost use Rattle.std.specs.Prelude.{◌≡◌, length};
@@ -8,9 +8,9 @@ ghost use Rattle.gps_chips.specs.Chips.{chips_answer, chips_buffer, by_the_machi
 // length. Refused, no byte changes.
 #[unsafe(no_mangle)]
 pub extern "C" fn gps_chips(signal: u64, prn: u64, place: u64, buffer: &mut [u8]) -> u32
-    ensures value { result ≡ chips_answer signal prn place (length buffer.old) }
-    ensures buffer_after { buffer.new ≡ chips_buffer by_the_machine signal prn place buffer.old }
-    ensures buffer_after_2 { buffer.new ≡ chips_buffer by_the_standards signal prn place buffer.old }
+    ensures answer { result ≡ chips_answer signal prn place (length buffer.old) }
+    ensures chips_by_the_machine { buffer.new ≡ chips_buffer by_the_machine signal prn place buffer.old }
+    ensures chips_by_the_standards { buffer.new ≡ chips_buffer by_the_standards signal prn place buffer.old }
 {
     gps_chips::gps_chips(signal, prn, place, buffer)
 }

@@ -153,9 +153,9 @@ ones_in_lem (suc k) n h = ones_step n ∙ ap (λ (x : ℕ). n % 2 + x) (ones_in_
 
 -- a seek from an opened channel tells the leaps of the rule
 tells : (signal prn place n : ℕ) → is_signal signal ≡ true → is_prn prn ≡ true → place < week_of signal → leaps_to signal prn place ≡ n → leaps_of signal prn place ≡ n ∷ []
-tells signal prn place n is_signal_lem is_prn_lem h e =
+tells signal prn place n signal_ok prn_ok h e =
     ap (λ (ch : Channel). (seek_reply ch place).leaps) (sym (advance_none (opened signal prn)))
-    ∙ ap (λ (r : Reply). r.leaps) (seeks_accepted signal prn is_signal_lem is_prn_lem 0 place h)
+    ∙ ap (λ (r : Reply). r.leaps) (seeks_accepted signal prn signal_ok prn_ok 0 place h)
     ∙ ap (λ (m : ℕ). m ∷ []) e
 
 leaps_of_p : (prn : ℕ) → leaps_to 2 prn 15344999 ≡ 40
@@ -184,7 +184,7 @@ known_places =
       p_4091 = x1a_there;
       p_15344656 = at_15344656;
       p_15344999 = at_15344999;
-      p_leaps = λ prn is_prn_lem. tells 2 prn 15344999 40 refl is_prn_lem (lit< tt) (leaps_of_p prn);
+      p_leaps = λ prn prn_ok. tells 2 prn 15344999 40 refl prn_ok (lit< tt) (leaps_of_p prn);
       p_15345000 = at_15345000;
       p_6187103995908 = at_6187103995908;
       p_6187103998930 = at_6187103998930;
@@ -192,6 +192,6 @@ known_places =
       p_6187103999999 = λ prn. last_step 2 prn 6187103999999 refl;
       i5_1 = i5_chips;
       xa_8190 = xa_there;
-      ca_leaps = λ prn is_prn_lem. tells 1 prn 1022 18 refl is_prn_lem (lit< tt) (leaps_of_ca prn);
+      ca_leaps = λ prn prn_ok. tells 1 prn 1022 18 refl prn_ok (lit< tt) (leaps_of_ca prn);
       ca_gap = half_a_week_on;
     }

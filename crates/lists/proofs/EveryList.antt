@@ -61,13 +61,13 @@ module _ (signal : ℕ) where
 
 -- ---- every list, whatever the calls before it
 
-module _ (signal prn : ℕ) (is_signal_lem : is_signal signal ≡ true) (is_prn_lem : is_prn prn ≡ true) where
+module _ (signal prn : ℕ) (signal_ok : is_signal signal ≡ true) (prn_ok : is_prn prn ≡ true) where
   -- the stepped machine after the calls before
   abbrev here : List Call → Channel
   here done = machine_at signal prn (place_after signal done)
 
   right : (done : List Call) (c : Call) → Right signal prn done c (reply_to (here done) c)
-  right done c = call_right signal prn is_signal_lem is_prn_lem done c
+  right done c = call_right signal prn signal_ok prn_ok done c
 
   fields_are : (calls done : List Call) → handed_back (here done) calls ≡ here (reverse_aux calls done)
   unfolding handed_back
@@ -105,7 +105,7 @@ module _ (signal prn : ℕ) (is_signal_lem : is_signal signal ≡ true) (is_prn_
             ∙ mod-mod (last_sought signal (reverse calls) + handed_out_since signal (reverse calls)) (week_of signal);
         fields = fields_are calls [];
         chips = handed_out (machine_chip signal prn) (chips_there signal prn);
-        standards = handed_out (standard signal prn) (every_window signal prn is_signal_lem is_prn_lem);
+        standards = handed_out (standard signal prn) (every_window signal prn signal_ok prn_ok);
         counts =
             gives_each (λ (r : Reply). length r.chips) (hands_out signal)
             (λ done c. ap length (right done c).chips_are ∙ chips-length (hands_out signal c) (here done))

@@ -85,9 +85,9 @@ module _ (signal prn : ℕ) where
     pub buffers_are : r.buffers ≡ leaves signal prn (place_after signal done) c
     pub channel_is : r.channel ≡ machine_at (place_after signal (c ∷ done))
 
-  module _ (is_signal_lem : is_signal signal ≡ true) (is_prn_lem : is_prn prn ≡ true) where
+  module _ (signal_ok : is_signal signal ≡ true) (prn_ok : is_prn prn ≡ true) where
     machine_in : (p : ℕ) → in_range (machine_at p) ≡ true
-    machine_in p = reached_in signal prn p is_signal_lem is_prn_lem
+    machine_in p = reached_in signal prn p signal_ok prn_ok
 
     module _ (done : List Call) where
       abbrev p : ℕ
@@ -97,7 +97,7 @@ module _ (signal prn : ℕ) where
       unfolding chips
       seek_in place h =
           let yes = lt-ltb place (week_of signal) h in
-          subst (Right done (Call.seek place)) (sym (seeks_accepted signal prn is_signal_lem is_prn_lem p place h))
+          subst (Right done (Call.seek place)) (sym (seeks_accepted signal prn signal_ok prn_ok p place h))
           (record {
             refused_is = simp yes;
             leaps_are = simp yes;
@@ -122,7 +122,7 @@ module _ (signal prn : ℕ) where
 
       stepped : Right done Call.step (step_reply (machine_at p))
       stepped =
-          subst (Right done Call.step) (sym (steps_accepted signal prn p is_signal_lem is_prn_lem))
+          subst (Right done Call.step) (sym (steps_accepted signal prn p signal_ok prn_ok))
           (record {
             refused_is = refl;
             leaps_are = refl;

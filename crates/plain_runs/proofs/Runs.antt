@@ -1,8 +1,8 @@
 -- A run is so many steps of the machine's.
 --     in_cycle_lem   a generator that is never held stays below its last phase in a stretch
---     stays      a generator that the signal lacks
+--     stays          a generator that the signal lacks
 --     run_advance, run_chips   where a run comes to, and its chips
---     more       a loop that writes a window has written a run more
+--     more           a loop that writes a window has written a run more
 -- Assumes nothing.
 use Prim.Native.Nat.{ℕ, ◌+◌, ◌-◌, ◌<◌, ◌≤◌}
 use mathlib.Core.Bool.{true, false}

@@ -5,7 +5,7 @@ ghost use Rattle.std.specs.Prelude.{◌≡◌, [], ◌∷◌, ◌++◌, ◌≤�
 ghost use Rattle.replies.specs.Reply.{written};
 ghost use Rattle.texts.specs.Buffers.{Begins};
 ghost use Rattle.commands.specs.Commands.{command_of};
-ghost use Rattle.sessions.specs.Sessions.{answer_of, last_of, talk, nothing as Sessions·nothing, nobody, asked, next, said, rest, replies, last_answer, kept};
+ghost use Rattle.sessions.specs.Sessions.{answer_of, last_of, talk, nothing, nobody, asked, next, said, rest, replies, last_answer, kept};
 
 use answer_lines::{Answered, ROOM};
 use commands::Command;
@@ -102,7 +102,7 @@ pub struct State {
 }
 
 fn nothing() -> Generator
-    ensures { result ≡ Sessions·nothing }
+    ensures { result ≡ nothing }
 {
     Generator {
         register: 0,

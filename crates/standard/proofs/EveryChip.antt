@@ -24,21 +24,21 @@ use Rattle.standard.proofs.ChipBySignal.{in_order}
 pub every_chip : (signal prn n : ℕ) → is_signal signal ≡ true → is_prn prn ≡ true
     → chip (advance n (opened signal prn)) ≡ standard signal prn (n % week_of signal)
 unfolding standard
-every_chip signal prn n is_signal_lem is_prn_lem =
+every_chip signal prn n signal_ok prn_ok =
     let w : ℕ = n % week_of signal in
     let within : w < week_of signal = mod-lt n (week_of_lem signal 1).week_some in
     ap chip (law_of_the_week signal prn n)
     ∙ chip_is (channel_at (signal_of signal prn) (courses_of signal) signal prn w w) refl
-    ∙ in_order (signal - 1) signal prn w (omega (arith, (signal_in signal is_signal_lem).1)) (prn_in prn is_prn_lem) within
+    ∙ in_order (signal - 1) signal prn w (omega (arith, (signal_in signal signal_ok).1)) (prn_in prn prn_ok) within
 
-module _ (signal prn : ℕ) (is_signal_lem : is_signal signal ≡ true) (is_prn_lem : is_prn prn ≡ true) where
+module _ (signal prn : ℕ) (signal_ok : is_signal signal ≡ true) (prn_ok : is_prn prn ≡ true) where
   at_places : (n p : ℕ)
       → map (λ (place : ℕ). chip (advance place (opened signal prn))) (places_from (week_of signal) p n) ≡ map (standard signal prn) (places_from (week_of signal) p n)
   unfolding places_from
   at_places zero p = refl
   at_places (suc n) p =
       ap₂ (λ (b : ℕ) (bs : List ℕ). b ∷ bs)
-      (every_chip signal prn (p % week_of signal) is_signal_lem is_prn_lem ∙ ap (standard signal prn) (mod-mod p (week_of signal)))
+      (every_chip signal prn (p % week_of signal) signal_ok prn_ok ∙ ap (standard signal prn) (mod-mod p (week_of signal)))
       (at_places n (suc p))
 
   pub every_window : (n p : ℕ) → chips n (advance p (opened signal prn)) ≡ map (standard signal prn) (places_from (week_of signal) p n)

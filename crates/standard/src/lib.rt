@@ -1,3 +1,2 @@
-#![tactic(auto)]
-
 // The chips as the standards write them, and that the stepped machine gives them. No code.
+#![tactic(auto)]

@@ -15,7 +15,7 @@ pub returns-then-refusal-gt-ACCEPTED : goal.returns-then-refusal-gt-ACCEPTED
 returns-then-refusal-gt-ACCEPTED c =
     let a = c.args in
     let known_facts = unwritten a.signal a.prn a.place a.buffer.now _ c.refusal_of-refusal.ensures c.if-refusal-gt-ACCEPTED.true in
-    record { value = known_facts.0; buffer_after = known_facts.1.0; buffer_after_2 = known_facts.1.1 }
+    record { answer = known_facts.0; chips_by_the_machine = known_facts.1.0; chips_by_the_standards = known_facts.1.1 }
 
 pub overflow_cast-signal : goal.overflow_cast-signal
 overflow_cast-signal c =
@@ -53,4 +53,4 @@ returns c =
     let known_facts = filled a.signal a.prn a.place a.buffer.now ok _ _
     (ap (λ (l : Landed). l.channel) c.land-landed.ensures)
     c.write_chips.ensures.1 in
-    record { value = known_facts.0; buffer_after = known_facts.1.0; buffer_after_2 = known_facts.1.1 }
+    record { answer = known_facts.0; chips_by_the_machine = known_facts.1.0; chips_by_the_standards = known_facts.1.1 }

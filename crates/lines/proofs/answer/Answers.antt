@@ -74,5 +74,5 @@ returns c =
     let g = c.gps_chips-refusal in
     let w = c.answered in
     let some : n ≡ 0 → ⊥ = search rules in
-    let made = reply_answered q.signal q.prn q.place q.count n pre.chips_len a.signal.now a.prn.now a.place.now g.result g.ensures.value c.if-refusal-gt0.false some a.chips.now g.new.buffer refl g.ensures.buffer_after in
+    let made = reply_answered q.signal q.prn q.place q.count n pre.chips_len a.signal.now a.prn.now a.place.now g.result g.ensures.answer c.if-refusal-gt0.false some a.chips.now g.new.buffer refl g.ensures.chips_by_the_machine in
     begins_as (answered_with a.signal.now a.prn.now a.place.now g.new.buffer) (reply_to a.signal.now a.prn.now a.place.now q.signal q.prn q.place q.count) a.out.now w.new.out w.result made w.ensures

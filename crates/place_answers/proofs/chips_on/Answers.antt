@@ -32,4 +32,4 @@ returns c =
     let a = c.args in
     let g = c.gps_chips-refusal in
     let word = c.answer_chips-2 in
-    begins_as (answered_line 0 g.new.buffer) (chips_line a.signal a.prn a.place (length a.buffer.now)) a.out.now word.new.out word.result (chips_filled a.signal a.prn a.place g.result a.buffer.now g.new.buffer g.ensures.value (omega (arith, c.if-refusal-gt0.false)) g.ensures.buffer_after) word.ensures
+    begins_as (answered_line 0 g.new.buffer) (chips_line a.signal a.prn a.place (length a.buffer.now)) a.out.now word.new.out word.result (chips_filled a.signal a.prn a.place g.result a.buffer.now g.new.buffer g.ensures.answer (omega (arith, c.if-refusal-gt0.false)) g.ensures.chips_by_the_machine) word.ensures
