@@ -4,8 +4,10 @@
 ghost use Rattle.std.specs.Prelude.{◌≡◌, true, ◌≤◌, ◌-◌, length, drop};
 ghost use Rattle.fields.specs.Fields.{before, after, digit, digits, is_number, value, shorn};
 
+// What parts two fields.
 const SPACE: u8 = b' ';
 
+// The digit that a number may begin with and lose.
 const ZERO: u8 = b'0';
 
 // How many bytes stand before the first space, or in all where there is none.

@@ -147,6 +147,7 @@ pub fn gap(signal: u64, a: u64, b: u64) -> Parted
     Parted::By(chips)
 }
 
+// The gap from a place to itself.
 const NO_CHIPS: i64 = 0;
 
 // How many chips a gap is, whatever its sign. With the sign it can be written as text.

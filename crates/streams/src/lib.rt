@@ -10,6 +10,7 @@ ghost use Rattle.streams.specs.Stream.{next, said, rest, replies, last_reply, ke
 // So many bytes of a line are kept, one more than the longest well-formed line has: four numbers of 13 digits and three spaces.
 const KEPT: usize = 56;
 
+// What ends a line.
 const NEWLINE: u8 = b'\n';
 
 // So many bytes has a line of which none has come.

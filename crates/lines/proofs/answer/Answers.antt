@@ -19,7 +19,7 @@ refused-requires c =
     let n = length a.chips.now in
     let pre = c.requires in
     let g = c.gps_chips-refusal in
-    let refused = reply_refused q.signal q.prn q.place q.count n pre.chips_len a.signal.now a.prn.now a.place.now g.result g.ensures.value c.if-refusal-gt0.true in
+    let refused = reply_refused q.signal q.prn q.place q.count n pre.chips_len a.signal.now a.prn.now a.place.now g.result g.ensures.answer c.if-refusal-gt0.true in
     record { n_bound = omega (arith, refused.1); in_bounds = omega (arith, pre.fits.room) }
 
 pub returns-then-refusal-gt0 : goal.returns-then-refusal-gt0
@@ -31,7 +31,7 @@ returns-then-refusal-gt0 c =
     let pre = c.requires in
     let g = c.gps_chips-refusal in
     let w = c.refused in
-    let refused = reply_refused q.signal q.prn q.place q.count n pre.chips_len a.signal.now a.prn.now a.place.now g.result g.ensures.value c.if-refusal-gt0.true in
+    let refused = reply_refused q.signal q.prn q.place q.count n pre.chips_len a.signal.now a.prn.now a.place.now g.result g.ensures.answer c.if-refusal-gt0.true in
     begins_as (refused_line g.result) (reply_to a.signal.now a.prn.now a.place.now q.signal q.prn q.place q.count) a.out.now w.new.out w.result refused.0 w.ensures
 
 pub returns-then-chips-eq0 : goal.returns-then-chips-eq0
@@ -44,7 +44,7 @@ returns-then-chips-eq0 c =
     let g = c.gps_chips-refusal in
     let w = c.refused-then-chips-eq0 in
     let none : n ≡ 0 = search rules in
-    let refused = reply_no_count q.signal q.prn q.place q.count n pre.chips_len a.signal.now a.prn.now a.place.now g.result g.ensures.value c.if-refusal-gt0.false none in
+    let refused = reply_no_count q.signal q.prn q.place q.count n pre.chips_len a.signal.now a.prn.now a.place.now g.result g.ensures.answer c.if-refusal-gt0.false none in
     begins_as (refused_line 5) (reply_to a.signal.now a.prn.now a.place.now q.signal q.prn q.place q.count) a.out.now w.new.out w.result refused w.ensures
 
 pub answered-requires : goal.answered-requires

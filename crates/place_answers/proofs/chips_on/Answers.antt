@@ -17,13 +17,13 @@ returns-then-refusal-gt0 c =
     let a = c.args in
     let g = c.gps_chips-refusal in
     let word = c.answer_chips in
-    begins_as (answered_line g.result []) (chips_line a.signal a.prn a.place (length a.buffer.now)) a.out.now word.new.out word.result (chips_refused a.signal a.prn a.place (length a.buffer.now) g.result g.ensures.value c.if-refusal-gt0.true) word.ensures
+    begins_as (answered_line g.result []) (chips_line a.signal a.prn a.place (length a.buffer.now)) a.out.now word.new.out word.result (chips_refused a.signal a.prn a.place (length a.buffer.now) g.result g.ensures.answer c.if-refusal-gt0.true) word.ensures
 
 pub answer_chips-requires-2 : goal.answer_chips-requires-2
 answer_chips-requires-2 c =
     let a = c.args in
     let g = c.gps_chips-refusal in
-    let fits = admitted a.signal a.prn a.place (length a.buffer.now) g.result g.ensures.value c.if-refusal-gt0.false in
+    let fits = admitted a.signal a.prn a.place (length a.buffer.now) g.result g.ensures.answer c.if-refusal-gt0.false in
     let same : length g.new.buffer ≡ length a.buffer.now = search rules in
     record { in_bounds = search rules; chips_len_bound = omega (arith, fits.short, same) }
 
