@@ -15,7 +15,10 @@ rt ci >"$verdict" 2>&1 || status=$?
 
 # Nothing to build and test where rt ci fails: its own verdict says why. An edit that could not be tried counts for nothing, and so it fails here too.
 if [ $status = 0 ]; then
-    ! grep -q '^rt: ok.*[1-9][0-9]* bad' "$verdict" || status=1
+    if grep -E '^rt: ok.*[1-9][0-9]* bad|^rt: note: bad must-fail edits' "$verdict" >&2; then
+        echo 'tests/run.sh: an edit could not be tried' >&2
+        status=1
+    fi
     make --no-print-directory lib codes console
     tests/host/run.sh
     tests/readme/run.sh
