@@ -23,8 +23,8 @@ run: codes
 	@printf '%s\n' "$$LINE" | target/bin/codes
 	@echo 'For more: type lines of SIGNAL PRN PLACE COUNT into target/bin/codes, or target/bin/codes <FILE >REPLIES'
 
-# A program: proves it and all below it, builds it, and tests how it reads and writes, which no proof covers. For `make install` a program that passed is newer
-# than its sources, and one that failed its tests older.
+# A program: proves it and all below it, builds it, and tests how it reads standard input and writes standard output, which no proof covers. For `make install` a
+# program that passed is newer than its sources, and one that failed its tests older.
 codes console:
 	$(need-rt)
 	@mkdir -p target/bin
@@ -37,7 +37,7 @@ codes console:
 lib:
 	$(need-rt)
 	@mkdir -p target
-	@echo 'proving gps_chips and what it rests on, some two minutes the first time (target/lib.log)'
+	@echo 'proving gps_chips and what it rests on, some three minutes the first time (target/lib.log)'
 	@{ (cd crates/gps_chips_c && rt lib) && mkdir -p $(dir $(archive)) && cp crates/gps_chips_c/out/libgps_chips_c.a $(archive); } >target/lib.log 2>&1 || { cat target/lib.log >&2; exit 1; }
 	@echo 'archive: $(archive)'
 	@echo 'header:  $(header)'
@@ -58,7 +58,7 @@ soak: lib codes console
 	$(call need,$(firstword $(CC)),a C compiler ($(CC)))
 	@CC='$(CC)' tests/reference/soak.sh $(SOAK)
 
-# From nothing: the C side, the independent model, the documents and the standards' tables; every proof, every wrong answer that has to be refused, every program.
+# Everything: the documents and the standards' tables; every proof, every wrong answer that has to be refused, every program; the C side, the independent model.
 # The last line is rt's verdict, "N passed, 0 failed".
 test:
 	$(need-rt)

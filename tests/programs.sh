@@ -1,5 +1,5 @@
-# For the tests of a program that answers lines: how it reads and writes, which no proof covers. To be sourced, with `name` set to the program's name and
-# $1 to the program, if it is another than target/bin/NAME. What is written goes to target/NAME.
+# For the tests of a program that answers lines: how it reads standard input and writes standard output, which no proof covers. To be sourced, with `name` set to
+# the program's name and $1 to the program, if it is another than target/bin/NAME. What is written goes to target/NAME.
 
 fail() {
     echo "$0: $*" >&2
