@@ -37,7 +37,7 @@ codes console:
 lib:
 	$(need-rt)
 	@mkdir -p target
-	@echo 'proving gps_chips and what it rests on, some three minutes the first time (target/lib.log)'
+	@echo 'proving gps_chips and what it rests on, some nine minutes the first time (target/lib.log)'
 	@{ (cd crates/gps_chips_c && rt lib) && mkdir -p $(dir $(archive)) && cp crates/gps_chips_c/out/libgps_chips_c.a $(archive); } >target/lib.log 2>&1 || { cat target/lib.log >&2; exit 1; }
 	@echo 'archive: $(archive)'
 	@echo 'header:  $(header)'
