@@ -36,8 +36,8 @@ declares() {
     case $1 in
         # a definition, a theorem, a field or a constructor, with its type; a record or a data type
         *.antt) grep -qE "^ *((pub|abbrev|unfoldable) )*$name : |^(pub )?(record|data) $name( |$)" "$1" ;;
-        # a function, a constant or a type; a variant or a field
-        *.rt) grep -qE "\b(fn|const|struct|enum) $name\b|^ +(pub )?$name(,|\(|:)" "$1" ;;
+        # a function, a constant, a type or a trait; a variant or a field
+        *.rt) grep -qE "\b(fn|const|struct|enum|trait) $name\b|^ +(pub )?$name(,|\(|:)" "$1" ;;
         *) grep -qw -- "$2" "$1" ;;
     esac
 }

@@ -1,11 +1,10 @@
 -- The parts of an answer of the console, as bytes, and what is answered of a line that is no command.
 -- Bytes are those of ASCII: 10 is a newline, 32 a space, 45 is `-`.
 -- Assumes nothing.
-use Rattle.std.specs.Prelude.{ℕ, suc, List, [], ◌∷◌, ◌++◌, map, ℤ, pos, negsuc}
+use Rattle.std.specs.Prelude.{ℕ, suc, List, [], ◌∷◌, ◌++◌, map, ℤ, pos, negsuc, Option, option_map}
 use Rattle.machine.specs.declared.Channel.{Channel}
 use Rattle.texts.specs.Texts.{chip_digit}
 use Rattle.numbers.specs.Numbers.{number_word}
-use Rattle.words.specs.declared.Last.{Last}
 
 abbrev pub ok : List ℕ → List ℕ
 ok text = 111 ∷ 107 ∷ 32 ∷ text
@@ -32,7 +31,7 @@ answered_line n chips = 97 ∷ 110 ∷ 115 ∷ 119 ∷ 101 ∷ 114 ∷ 32 ∷ (n
 abbrev pub most_length : ℕ
 most_length = 131072
 
--- ---- what `.` stands for after a call: "the channel that the last call handed back"
+-- ---- what `.` stands for after a call: "the channel that the last call handed back", once an open was accepted
 
-abbrev pub handed_back : Last → Channel → Last
-handed_back last ch = record { opened = last.opened; channel = ch }
+abbrev pub handed_back : Option Channel → Channel → Option Channel
+handed_back last ch = option_map (λ _. ch) last

@@ -1,137 +1,135 @@
-// The parts of an answer of the console: each writes a line of text, or the end of one, to the buffer that is lent for it. A whole line stands at the
-// buffer's start, and what is answered is where it ends.
+// The parts of an answer of the console: each appends a line of text, or the end of one, behind what stands in the vector that is lent for it.
 #![tactic(auto)]
 
-ghost use Rattle.std.specs.Prelude.{◌≡◌, ◌++◌, ◌≤◌, ◌+◌, ltb, length};
+ghost use Rattle.std.specs.Prelude.{◌≡◌, [], ◌++◌, ◌≤◌, ◌+◌, ltb, length, MatchResult};
+ghost use Rattle.arrayvec.specs.ArrayVec.{array_vec_len};
+ghost use Rattle.refusals.specs.Refusal.{number_of};
 ghost use Rattle.numbers.specs.Numbers.{number_word};
 ghost use Rattle.words.specs.Words.{channel_word};
-ghost use Rattle.texts.specs.Buffers.{Puts, Begins};
 ghost use Rattle.answer_lines.specs.Lines.{ok, chips_word, signed_word, answered_line, error_line, most_length, handed_back};
 
+use arrayvec::ArrayVec;
 use machine::Channel;
-use words::Last;
+use refusals::Refusal;
 
 // The longest buffer that a line may ask for.
 pub const MOST_LENGTH: usize = 131_072;
 
-// Every answer fits in so many bytes: the longest has a channel and 65,536 chips.
+// Every answer fits in so many bytes: the longest has a channel and 65,536 chips. Who appends one asks for them in a clause: a type that carried the room
+// would borrow the vector and be used up by each thing appended.
 pub const ROOM: usize = 66_048;
 
 // ---- the words of an answer
 
-// Chips, a digit for each, or `-` for none, and a newline, from `at` on.
-fn put_chips(chips: &[u8], out: &mut [u8], at: usize) -> usize
-    requires { at + length chips.now + 2 ≤ length out.old }
-    ensures { Puts (chips_word chips.now) at out.old out.new result }
+// Chips, a digit for each, or `-` for none, and a newline.
+fn append_chips<const N: usize>(chips: &[u8], out: &mut ArrayVec<u8, N>)
+    requires { array_vec_len out.old + length chips.now + 2 ≤ N }
+    ensures { out.new.items ≡ out.old.items ++ chips_word chips.now }
 {
-    if chips.len() == 0 {
-        return texts::put(b"-\n", out, at);
+    if chips.is_empty() {
+        texts::append(b"-\n", out);
+    } else {
+        texts::append_chips(chips, out);
+        out.push(b'\n');
     }
-    let end = texts::put_chips(chips, out, at);
-    out[end] = b'\n';
-    end + 1
 }
 
-pub fn ok_channel(ch: Channel, out: &mut [u8]) -> usize
-    requires { 66048 ≤ length out.old }
-    ensures { Begins (ok (channel_word 10 ch)) out.old out.new result }
+// `ok CH`: a channel of any field values. 448 bytes of room are enough.
+pub fn ok_channel<const N: usize>(ch: Channel, out: &mut ArrayVec<u8, N>)
+    requires { array_vec_len out.old + 448 ≤ N }
+    ensures { out.new.items ≡ out.old.items ++ ok (channel_word 10 ch) }
 {
-    let end = texts::put(b"ok ", out, 0);
-    words::put_channel(ch, b'\n', out, end)
+    texts::append(b"ok ", out);
+    words::put_channel(ch, b'\n', out);
 }
 
-pub fn ok_number_channel(n: u64, ch: Channel, out: &mut [u8]) -> usize
-    requires { 66048 ≤ length out.old }
-    ensures { Begins (ok (number_word 32 n ++ channel_word 10 ch)) out.old out.new result }
+// `ok N CH`: any number, and a channel of any field values.
+pub fn ok_number_channel<const N: usize>(n: u64, ch: Channel, out: &mut ArrayVec<u8, N>)
+    requires { array_vec_len out.old + 469 ≤ N }
+    ensures { out.new.items ≡ out.old.items ++ ok (number_word 32 n ++ channel_word 10 ch) }
 {
-    let first = texts::put(b"ok ", out, 0);
-    let second = numbers::put_number(n, b' ', out, first);
-    words::put_channel(ch, b'\n', out, second)
+    texts::append(b"ok ", out);
+    numbers::put_number(n, b' ', out);
+    words::put_channel(ch, b'\n', out);
 }
 
-pub fn ok_channel_chips(ch: Channel, chips: &[u8], out: &mut [u8]) -> usize
-    requires in_bounds { 66048 ≤ length out.old }
-    requires chips_len_bound { length chips.now ≤ 65536 }
-    ensures { Begins (ok (channel_word 32 ch ++ chips_word chips.now)) out.old out.new result }
+// `ok CH CHIPS`: a channel of any field values, and as many chips as there is room for, `-` where there are none.
+pub fn ok_channel_chips<const N: usize>(ch: Channel, chips: &[u8], out: &mut ArrayVec<u8, N>)
+    requires { array_vec_len out.old + length chips.now + 450 ≤ N }
+    ensures { out.new.items ≡ out.old.items ++ ok (channel_word 32 ch ++ chips_word chips.now) }
 {
-    let first = texts::put(b"ok ", out, 0);
-    let second = words::put_channel(ch, b' ', out, first);
-    put_chips(chips, out, second)
+    texts::append(b"ok ", out);
+    words::put_channel(ch, b' ', out);
+    append_chips(chips, out);
 }
 
-pub fn ok_number(n: u64, out: &mut [u8]) -> usize
-    requires { 66048 ≤ length out.old }
-    ensures { Begins (ok (number_word 10 n)) out.old out.new result }
+// `ok N`: any number.
+pub fn ok_number<const N: usize>(n: u64, out: &mut ArrayVec<u8, N>)
+    requires { array_vec_len out.old + 24 ≤ N }
+    ensures { out.new.items ≡ out.old.items ++ ok (number_word 10 n) }
 {
-    let end = texts::put(b"ok ", out, 0);
-    numbers::put_number(n, b'\n', out, end)
+    texts::append(b"ok ", out);
+    numbers::put_number(n, b'\n', out);
 }
 
-pub fn ok_numbers(n: u64, m: u64, out: &mut [u8]) -> usize
-    requires { 66048 ≤ length out.old }
-    ensures { Begins (ok (number_word 32 n ++ number_word 10 m)) out.old out.new result }
+// `ok N M`: any two numbers.
+pub fn ok_numbers<const N: usize>(n: u64, m: u64, out: &mut ArrayVec<u8, N>)
+    requires { array_vec_len out.old + 45 ≤ N }
+    ensures { out.new.items ≡ out.old.items ++ ok (number_word 32 n ++ number_word 10 m) }
 {
-    let first = texts::put(b"ok ", out, 0);
-    let second = numbers::put_number(n, b' ', out, first);
-    numbers::put_number(m, b'\n', out, second)
+    texts::append(b"ok ", out);
+    numbers::put_number(n, b' ', out);
+    numbers::put_number(m, b'\n', out);
 }
 
-pub fn ok_signed(n: i64, out: &mut [u8]) -> usize
-    requires { 66048 ≤ length out.old }
-    ensures { Begins (ok (signed_word n)) out.old out.new result }
+// `ok N`: any number of 64 bits with its sign, a `-` or nothing.
+pub fn ok_signed<const N: usize>(n: i64, out: &mut ArrayVec<u8, N>)
+    requires { array_vec_len out.old + 25 ≤ N }
+    ensures { out.new.items ≡ out.old.items ++ ok (signed_word n) }
 {
-    let size = places::size(n);
+    texts::append(b"ok ", out);
     if n < 0 {
-        let end = texts::put(b"ok -", out, 0);
-        return numbers::put_number(size, b'\n', out, end);
+        out.push(b'-');
     }
-    ok_number(size, out)
+    numbers::put_number(places::size(n), b'\n', out);
 }
 
-pub fn answer_chips(refusal: u64, chips: &[u8], out: &mut [u8]) -> usize
-    requires in_bounds { 66048 ≤ length out.old }
-    requires chips_len_bound { length chips.now ≤ 65536 }
-    ensures { Begins (answered_line refusal chips.now) out.old out.new result }
+// `answer N CHIPS`: what the call Chips answered. With its chips N is 0; a refused call has its number there, and no chips.
+pub fn answer_chips<const N: usize>(answered: Result<&[u8], Refusal>, out: &mut ArrayVec<u8, N>)
+    requires { MatchResult answered (λ chips. array_vec_len out.old + length chips.now + 30 ≤ N) (λ _. array_vec_len out.old + 30 ≤ N) }
+    ensures { MatchResult answered.entry (λ chips. out.new.items ≡ out.old.items ++ answered_line 0 chips.now)
+        (λ e. out.new.items ≡ out.old.items ++ answered_line (number_of e) []) }
 {
-    let first = texts::put(b"answer ", out, 0);
-    let second = numbers::put_number(refusal, b' ', out, first);
-    put_chips(chips, out, second)
+    texts::append(b"answer ", out);
+    match answered {
+        Ok(chips) => {
+            numbers::put_number(0, b' ', out);
+            append_chips(chips, out);
+        }
+        Err(refusal) => {
+            numbers::put_number(u64::from(refusal.number()), b' ', out);
+            append_chips(b"", out);
+        }
+    }
 }
 
 // ---- what `.` stands for after an answer
 
-// Where an answer ends, and what `.` stands for after it.
-#[derive(Clone, Copy)]
-pub struct Answered {
-    pub end: usize,
-    pub last: Last,
-}
-
 // A call has handed back a channel.
-pub fn handed(end: usize, last: Last, ch: Channel) -> Answered
-    ensures { (result.end ≡ end) × (result.last ≡ handed_back last ch) }
+pub fn hand_back(last: &mut Option<Channel>, ch: Channel)
+    ensures { last.new ≡ handed_back last.old ch }
 {
-    Answered {
-        end,
-        last: Last {
-            opened: last.opened,
-            channel: ch,
-        },
-    }
+    *last = last.map(|_| ch);
 }
 
 // ---- what is no call
 
 // A line that is no command.
-pub fn error(last: Last, out: &mut [u8]) -> Answered
-    requires { 66048 ≤ length out.old }
-    ensures begins { Begins error_line out.old out.new result.end }
-    ensures last_value { result.last ≡ last }
+pub fn error<const N: usize>(out: &mut ArrayVec<u8, N>)
+    requires { array_vec_len out.old + 6 ≤ N }
+    ensures { out.new.items ≡ out.old.items ++ error_line }
 {
-    Answered {
-        end: texts::put(b"error\n", out, 0),
-        last,
-    }
+    texts::append(b"error\n", out);
 }
 
 // Whether a line asks for a buffer that is longer than any.

@@ -6,28 +6,22 @@ ghost use Rattle.std.specs.Prelude.{◌≡◌};
 ghost use Rattle.call_seek.specs.Seek.{of_sought, seek_reply};
 
 use machine::Channel;
-
-#[derive(Clone, Copy)]
-pub enum Sought {
-    // The leaps made, and the channel at the place sought.
-    At(u32, Channel),
-    // 4: a field of the channel out of range; the channel as it came.
-    OutOfRange(Channel),
-    // 3: place not below W; the channel as it came.
-    NoPlace(Channel),
-}
+use refusals::Refusal;
+use replies::Refused;
+pub use seeks::Sought;
 
 // The channel of the same signal and PRN at any place of the week, and the leaps that led there. The place is tested whole.
-pub fn seek(ch: Channel, place: u64) -> Sought
+#[tactic(auto, unfolding(crate::specs::Seek::seek_reply))]
+pub fn seek(ch: Channel, place: u64) -> Result<Sought, Refused>
     ensures { of_sought result ≡ seek_reply ch place }
 {
-    if !ranges::in_range(ch) {
-        return Sought::OutOfRange(ch);
+    let ch = ranges::judge(ch)?;
+    let signal = ch.signal();
+    if signal.week() <= place {
+        return Err(Refused {
+            refusal: Refusal::Place,
+            channel: ch.channel,
+        });
     }
-    if ranges::week_of(ch.signal) <= place {
-        return Sought::NoPlace(ch);
-    }
-    let landed = seeks::land(ch.signal, ch.prn, place);
-    let there = landed.channel;
-    Sought::At(landed.leaps, there)
+    Ok(seeks::land(signal, ch.prn(), place))
 }

@@ -5,23 +5,30 @@ ghost use Rattle.std.specs.Prelude.{◌≡◌};
 ghost use Rattle.call_step.specs.Step.{of_stepped, step_reply};
 
 use machine::Channel;
+use ranges::InRange;
+use refusals::Refusal;
+use replies::Refused;
 
-#[derive(Clone, Copy)]
-pub enum Stepped {
-    // The chip at the place where the channel came, 0 or 1, and the channel one step on.
-    Chip(u8, Channel),
-    // 4: a field of the channel out of range; the channel as it came.
-    OutOfRange(Channel),
+// The chip at the place where the channel came, 0 or 1, and the channel one step on.
+#[derive(Clone, Copy, Debug, PartialEq, Eq)]
+pub struct Stepped {
+    pub chip: u8,
+    pub channel: Channel,
 }
 
-// The present chip, and the channel one step on.
-pub fn step(ch: Channel) -> Stepped
+// The present chip, and the channel one step on. Tried with `ranges::judge(ch)?`: a single step takes 6 to 8 % longer.
+#[tactic(auto, unfolding(crate::specs::Step::step_reply))]
+pub fn step(ch: Channel) -> Result<Stepped, Refused>
     ensures { of_stepped result ≡ step_reply ch }
 {
     if !ranges::in_range(ch) {
-        return Stepped::OutOfRange(ch);
+        return Err(Refused {
+            refusal: Refusal::Channel,
+            channel: ch,
+        });
     }
+    let ch = InRange::of(ch);
     let chip = steps::chip_of(ch);
-    let next = steps::step_of(ch);
-    Stepped::Chip(chip, next)
+    let channel = steps::step_of(ch).channel;
+    Ok(Stepped { chip, channel })
 }

@@ -1,11 +1,11 @@
 -- What window answers, for every input: document 01, "Operations and refusals". "Where several refusals apply, the one written first is given."
 -- Assumes nothing.
-use Rattle.std.specs.Prelude.{ℕ, ◌+◌, cond, List, [], ◌∷◌, leb, length, take, drop}
+use Rattle.std.specs.Prelude.{ℕ, ◌+◌, cond, List, [], ◌∷◌, leb, length, take, drop, Result, Ok, Err}
 use Rattle.machine.specs.Machine.{advance, chips, in_range}
 use Rattle.machine.specs.declared.Channel.{Channel}
+use Rattle.refusals.specs.Refusal.{number_of}
 use Rattle.replies.specs.Reply.{Reply, written}
-use Rattle.call_window.specs.declared.Windowed.{Windowed}
-use Rattle.call_window.specs.declared.Windowed.TheVariants as windows
+use Rattle.replies.specs.declared.Refused.{Refused}
 
 -- the most chips that one call writes
 abbrev pub most_chips : ℕ
@@ -21,11 +21,9 @@ unwritten_with n after ch = record { refused = n; leaps = []; chips = []; buffer
 
 -- What each case of the answer says, given count, at and the buffer after the call. "Chips handed out are .. in the order of the buffer, the count bytes
 -- from `at` onward that an accepted window wrote."
-abbrev pub of_windowed : ℕ → ℕ → List ℕ → Windowed → Reply
-of_windowed count at after (windows.Written ch) = written_with (take count (drop at after)) after ch
-of_windowed count at after (windows.OutOfRange ch) = unwritten_with 4 after ch
-of_windowed count at after (windows.TooMany ch) = unwritten_with 5 after ch
-of_windowed count at after (windows.NoRoom ch) = unwritten_with 6 after ch
+abbrev pub of_windowed : ℕ → ℕ → List ℕ → Result Channel Refused → Reply
+of_windowed count at after (Ok ch) = written_with (take count (drop at after)) after ch
+of_windowed count at after (Err e) = unwritten_with (number_of e.refusal) after e.channel
 
 -- "writes the chips that count steps would give .. and moves the channel by them .. 4; 5: count above 65,536; 6: `at` plus count exceeds the buffer, the
 -- sum taken without wrapping."

@@ -6,37 +6,29 @@ ghost use Rattle.std.specs.Prelude.{◌≡◌};
 ghost use Rattle.call_window.specs.Window.{of_windowed, window_reply};
 
 use machine::Channel;
-
-#[derive(Clone, Copy)]
-pub enum Windowed {
-    // The chips stand in the buffer; the channel, moved on by as many.
-    Written(Channel),
-    // 4: a field of the channel out of range; the channel as it came, as in each refusal.
-    OutOfRange(Channel),
-    // 5: count above 65,536.
-    TooMany(Channel),
-    // 6: no space for so many bytes from `at` onward.
-    NoRoom(Channel),
-}
+use refusals::Refusal;
+use replies::Refused;
 
 // The chips that count steps would give, written to the buffer from `at` onward, and the channel moved by them. The sum of `at` and count is never formed, so
 // it cannot wrap.
-pub fn window(ch: Channel, count: u64, buffer: &mut [u8], at: u64) -> Windowed
+#[tactic(auto, unfolding(crate::specs::Window::window_reply))]
+pub fn window(ch: Channel, count: u64, buffer: &mut [u8], at: u64) -> Result<Channel, Refused>
     ensures { of_windowed count at buffer.new result ≡ window_reply ch count buffer.old at }
 {
-    if !ranges::in_range(ch) {
-        return Windowed::OutOfRange(ch);
-    }
+    let ch = ranges::judge(ch)?.channel;
     if windows::MOST_CHIPS < count {
-        return Windowed::TooMany(ch);
+        return Err(Refused {
+            refusal: Refusal::Count,
+            channel: ch,
+        });
     }
     let length = buffer.len() as u64;
-    if length < at {
-        return Windowed::NoRoom(ch);
-    }
-    if length - at < count {
-        return Windowed::NoRoom(ch);
+    if length < at || length - at < count {
+        return Err(Refused {
+            refusal: Refusal::Room,
+            channel: ch,
+        });
     }
     let next = windows::write_chips(ch, count as usize, &mut buffer[at as usize..]);
-    Windowed::Written(next)
+    Ok(next)
 }

@@ -1,7 +1,7 @@
 -- What the console answers to each call that hands back a channel, as bytes, and which channel `.` stands for after it. The replies are those that the
 -- promises of the calls cite.
 -- Assumes nothing.
-use Rattle.std.specs.Prelude.{ℕ, true, cond, List, [], ◌∷◌, ◌++◌, leb, eqb, replicate}
+use Rattle.std.specs.Prelude.{ℕ, cond, List, [], ◌∷◌, ◌++◌, leb, eqb, replicate, Option, Some}
 use Rattle.machine.specs.declared.Channel.{Channel}
 use Rattle.replies.specs.Reply.{Reply}
 use Rattle.call_open.specs.Open.{OpenReply, channel, refusal}
@@ -9,7 +9,6 @@ use Rattle.call_window.specs.Window.{window_reply}
 use Rattle.texts.specs.Texts.{refused_line}
 use Rattle.numbers.specs.Numbers.{number_word}
 use Rattle.words.specs.Words.{channel_word}
-use Rattle.words.specs.declared.Last.{Last}
 use Rattle.answer_lines.specs.Lines.{ok, chips_word, error_line, most_length, handed_back}
 
 -- ---- the answers, given the reply
@@ -52,9 +51,9 @@ window_answered ch count bytes at = cond (leb bytes most_length) (window_line (w
 -- ---- what `.` stands for after a call: "the channel that the last call handed back"
 
 -- an accepted open hands back a channel, and from then on `.` has a meaning; a refused one hands back none
-abbrev pub opened_last : Last → OpenReply → Last
-opened_last last (channel ch) = record { opened = true; channel = ch }
+abbrev pub opened_last : Option Channel → OpenReply → Option Channel
+opened_last last (channel ch) = Some ch
 opened_last last (refusal n) = last
 
-abbrev pub window_last : Last → Channel → ℕ → ℕ → ℕ → Last
+abbrev pub window_last : Option Channel → Channel → ℕ → ℕ → ℕ → Option Channel
 window_last last ch count bytes at = cond (leb bytes most_length) (handed_back last (window_reply ch count (buffer bytes) at).channel) last

@@ -1,148 +1,130 @@
-// The calls on a channel as the console makes them: each with its reply as a line of text, written at the start of the buffer that is lent for it. What is
-// answered is where the line ends and what `.` stands for after it.
+// The calls on a channel as the console makes them: each appends its reply as a line of text, and keeps what `.` stands for after it.
 #![tactic(auto)]
 
-ghost use Rattle.std.specs.Prelude.{◌≡◌, ◌≤◌, length};
+ghost use Rattle.std.specs.Prelude.{◌≡◌, ◌≤◌, ◌+◌, ◌++◌};
+ghost use Rattle.arrayvec.specs.ArrayVec.{array_vec_len};
+ghost use Rattle.refusals.specs.Refusal.{number_of};
 ghost use Rattle.call_open.specs.Open.{open_reply};
 ghost use Rattle.call_seek.specs.Seek.{seek_reply};
 ghost use Rattle.call_step.specs.Step.{step_reply};
 ghost use Rattle.call_window.specs.Window.{window_reply};
-ghost use Rattle.texts.specs.Buffers.{Begins};
+ghost use Rattle.texts.specs.Texts.{refused_line};
 ghost use Rattle.answer_lines.specs.Lines.{handed_back};
 ghost use Rattle.channel_answers.specs.ChannelAnswers.{open_line, seek_line, step_line, window_line, window_answered, opened_last, window_last};
 
-use answer_lines::Answered;
-use engine::{Opened, Sought, Stepped, Windowed};
+use answer_lines::{MOST_LENGTH, ROOM};
+use arrayvec::ArrayVec;
+use engine::Refused;
 use machine::Channel;
-use words::Last;
 
-pub fn open(signal: u64, prn: u64, last: Last, out: &mut [u8]) -> Answered
-    requires { 66048 ≤ length out.old }
-    ensures begins { Begins (open_line (open_reply signal prn)) out.old out.new result.end }
-    ensures last_value { result.last ≡ opened_last last (open_reply signal prn) }
+// The calls are of one shape: each names its call and its line, which one for all would be handed.
+
+// Opens a channel, and `.` stands for it from then on: `ok CH`, or the refusal of a signal or a PRN. Any two numbers.
+pub fn open<const N: usize>(
+    signal: u64,
+    prn: u64,
+    last: &mut Option<Channel>,
+    out: &mut ArrayVec<u8, N>,
+)
+    requires { array_vec_len out.old + 448 ≤ N }
+    ensures text { out.new.items ≡ out.old.items ++ open_line (open_reply signal prn) }
+    ensures dot { last.new ≡ opened_last last.old (open_reply signal prn) }
 {
-    let opened = engine::open(signal, prn);
-    match opened {
-        Opened::At(ch) => {
-            return Answered {
-                end: answer_lines::ok_channel(ch, out),
-                last: Last {
-                    opened: true,
-                    channel: ch,
-                },
-            };
+    match engine::open(signal, prn) {
+        Ok(ch) => {
+            *last = Some(ch);
+            answer_lines::ok_channel(ch, out);
         }
-        Opened::NoSignal => {
-            return Answered {
-                end: texts::refused(1, out),
-                last,
-            };
-        }
-        Opened::NoPrn => {
-            return Answered {
-                end: texts::refused(2, out),
-                last,
-            };
-        }
+        Err(refusal) => texts::append_refused(refusal, out),
     }
 }
 
-pub fn seek(ch: Channel, place: u64, last: Last, out: &mut [u8]) -> Answered
-    requires { 66048 ≤ length out.old }
-    ensures begins { Begins (seek_line (seek_reply ch place)) out.old out.new result.end }
-    ensures last_value { result.last ≡ handed_back last (seek_reply ch place).channel }
+// A refused call hands back the channel as it came.
+fn refuse<const N: usize>(refused: Refused, last: &mut Option<Channel>, out: &mut ArrayVec<u8, N>)
+    requires { array_vec_len out.old + 10 ≤ N }
+    ensures text { out.new.items ≡ out.old.items ++ refused_line (number_of refused.refusal) }
+    ensures dot { last.new ≡ handed_back last.old refused.channel }
 {
-    let sought = engine::seek(ch, place);
-    match sought {
-        Sought::At(leaps, there) => {
-            return answer_lines::handed(
-                answer_lines::ok_number_channel(leaps as u64, there, out),
-                last,
-                there,
-            );
+    answer_lines::hand_back(last, refused.channel);
+    texts::append_refused(refused.refusal, out);
+}
+
+// A channel brought to a place: `ok LEAPS CH`, or the refusal of a channel out of range or of a place behind the signal's week. Any values.
+pub fn seek<const N: usize>(
+    ch: Channel,
+    place: u64,
+    last: &mut Option<Channel>,
+    out: &mut ArrayVec<u8, N>,
+)
+    requires { array_vec_len out.old + 469 ≤ N }
+    ensures text { out.new.items ≡ out.old.items ++ seek_line (seek_reply ch place) }
+    ensures dot { last.new ≡ handed_back last.old (seek_reply ch place).channel }
+{
+    match engine::seek(ch, place) {
+        Ok(sought) => {
+            let there = sought.channel;
+            answer_lines::hand_back(last, there);
+            answer_lines::ok_number_channel(u64::from(sought.leaps), there, out);
         }
-        Sought::OutOfRange(same) => {
-            return answer_lines::handed(texts::refused(4, out), last, same);
-        }
-        Sought::NoPlace(same) => {
-            return answer_lines::handed(texts::refused(3, out), last, same);
-        }
+        Err(refused) => refuse(refused, last, out),
     }
 }
 
-pub fn step(ch: Channel, last: Last, out: &mut [u8]) -> Answered
-    requires { 66048 ≤ length out.old }
-    ensures begins { Begins (step_line (step_reply ch)) out.old out.new result.end }
-    ensures last_value { result.last ≡ handed_back last (step_reply ch).channel }
+// A channel's chip, and the channel one step on: `ok CHIP CH`, or the refusal of a channel out of range. Any field values.
+pub fn step<const N: usize>(ch: Channel, last: &mut Option<Channel>, out: &mut ArrayVec<u8, N>)
+    requires { array_vec_len out.old + 469 ≤ N }
+    ensures text { out.new.items ≡ out.old.items ++ step_line (step_reply ch) }
+    ensures dot { last.new ≡ handed_back last.old (step_reply ch).channel }
 {
-    let stepped = engine::step(ch);
-    match stepped {
-        Stepped::Chip(chip, next) => {
-            return answer_lines::handed(
-                answer_lines::ok_number_channel(chip as u64, next, out),
-                last,
-                next,
-            );
+    match engine::step(ch) {
+        Ok(stepped) => {
+            let next = stepped.channel;
+            answer_lines::hand_back(last, next);
+            answer_lines::ok_number_channel(u64::from(stepped.chip), next, out);
         }
-        Stepped::OutOfRange(same) => {
-            return answer_lines::handed(texts::refused(4, out), last, same);
-        }
+        Err(refused) => refuse(refused, last, out),
     }
 }
 
-fn window_on(
+fn window_on<const N: usize>(
     ch: Channel,
     count: u64,
     buffer: &mut [u8],
     at: u64,
-    last: Last,
-    out: &mut [u8],
-) -> Answered
-    requires { 66048 ≤ length out.old }
-    ensures begins { Begins (window_line (window_reply ch count buffer.old at)) out.old out.new result.end }
-    ensures last_value { result.last ≡ handed_back last (window_reply ch count buffer.old at).channel }
+    last: &mut Option<Channel>,
+    out: &mut ArrayVec<u8, N>,
+)
+    requires { array_vec_len out.old + ROOM ≤ N }
+    ensures text { out.new.items ≡ out.old.items ++ window_line (window_reply ch count buffer.old at) }
+    ensures dot { last.new ≡ handed_back last.old (window_reply ch count buffer.old at).channel }
 {
-    let windowed = engine::window(ch, count, buffer, at);
-    match windowed {
-        Windowed::Written(next) => {
-            let from = at as usize;
-            let to = from + count as usize;
-            return answer_lines::handed(
-                answer_lines::ok_channel_chips(next, &buffer[from..to], out),
-                last,
-                next,
-            );
+    match engine::window(ch, count, buffer, at) {
+        Ok(next) => {
+            answer_lines::hand_back(last, next);
+            let chips = &buffer[at as usize..(at + count) as usize];
+            answer_lines::ok_channel_chips(next, chips, out);
         }
-        Windowed::OutOfRange(same) => {
-            return answer_lines::handed(texts::refused(4, out), last, same);
-        }
-        Windowed::TooMany(same) => {
-            return answer_lines::handed(texts::refused(5, out), last, same);
-        }
-        Windowed::NoRoom(same) => {
-            return answer_lines::handed(texts::refused(6, out), last, same);
-        }
+        Err(unwritten) => refuse(unwritten, last, out),
     }
 }
 
-// A window on a buffer of so many bytes, a part of `work`.
-pub fn window(
+// A window on a buffer of so many bytes, each 0. Inlined, it would have every byte of a session pay for its stack.
+#[inline(never)]
+pub fn window<const N: usize>(
     ch: Channel,
     count: u64,
     bytes: u64,
     at: u64,
-    last: Last,
-    work: &mut [u8],
-    out: &mut [u8],
-) -> Answered
-    requires in_bounds { 131072 ≤ length work.old }
-    requires in_bounds_2 { 66048 ≤ length out.old }
-    ensures begins { Begins (window_answered ch count bytes at) out.old out.new result.end }
-    ensures last_value { result.last ≡ window_last last ch count bytes at }
+    last: &mut Option<Channel>,
+    out: &mut ArrayVec<u8, N>,
+)
+    requires { array_vec_len out.old + ROOM ≤ N }
+    ensures text { out.new.items ≡ out.old.items ++ window_answered ch count bytes at }
+    ensures dot { last.new ≡ window_last last.old ch count bytes at }
 {
     if answer_lines::too_long(bytes) {
-        return answer_lines::error(last, out);
+        return answer_lines::error(out);
     }
-    let n = bytes as usize;
-    window_on(ch, count, &mut work[..n], at, last, out)
+    let mut longest = [0u8; MOST_LENGTH];
+    window_on(ch, count, &mut longest[..bytes as usize], at, last, out);
 }

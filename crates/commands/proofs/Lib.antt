@@ -1,4 +1,2 @@
 pub mod Beginnings
-pub mod Named
-pub mod Arguments
 pub mod LongLines

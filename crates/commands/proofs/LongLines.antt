@@ -10,20 +10,20 @@ use lib.Dec.{eqb}
 use lib.ListN.{length, take, drop, length-append}
 use lib.Seq.{take-take, drop_at}
 use borrow.Author.Tests.{ne_eqb}
+use Rattle.std.specs.Prelude.{Option, Some, None, IfSome, option_map}
+use Rattle.std.proofs.lemmas.Option.{none-some}
 use Rattle.machine.specs.declared.Mode.{Mode}
 use Rattle.machine.specs.declared.Mode.TheVariants as modes
 use Rattle.machine.specs.declared.Generator.{Generator}
 use Rattle.machine.specs.declared.Channel.{Channel}
 use Rattle.fields.specs.Fields.{digit}
 use Rattle.texts.proofs.Saying.{Plain, plain-take}
-use Rattle.words.specs.declared.Last.{Last}
-use Rattle.numbers.specs.Numbers.{found, missing, most64, digits_in, number_word, read_number, unpadded, read_argument}
+use Rattle.numbers.specs.Numbers.{Read, ◌>>=◌, most64, digits_in, number_word, read_number, unpadded, read_argument}
 use Rattle.words.specs.Words.{mode_word, generator_word, generators_word, channel_word, read_channel}
-use Rattle.numbers.proofs.Numbers.{digits_short, number_short, number_back, number_lost}
-use Rattle.words.proofs.Generators.{generator_lost}
+use Rattle.numbers.proofs.Numbers.{digits_short, number_short, small64, number_back}
 use Rattle.words.proofs.RoundTrip.{back}
 use Rattle.words.proofs.Writing.{channel_short}
-use Rattle.commands.specs.Commands.{begins, argument, last_argument, read_named, whole, read_open, read_seek, read_step, read_window, read_chips, read_reading, read_place_of, read_gap, open_word, seek_word, step_word, window_word, chips_word, reading_word, place_of_word, gap_word, command_of}
+use Rattle.commands.specs.Commands.{begins, argument, last_argument, read_named, read_open, read_seek, read_step, read_window, read_chips, read_reading, read_place_of, read_gap, open_word, seek_word, step_word, window_word, chips_word, reading_word, place_of_word, gap_word, command_of}
 use Rattle.commands.specs.declared.Command.{Command}
 use Rattle.commands.specs.declared.Command.TheVariants as commands
 
@@ -68,26 +68,30 @@ no_word (a ∷ x) (b ∷ l) (suc n) h p = by (eqb a b) (no_word x l n (omega ari
 
 -- ---- numbers
 
-module _ (l : List ℕ) (n : ℕ) (plain : Plain (take n l)) where
-  behind_number : (mark k : ℕ) → 21 + k ≤ n → Plain (take k (read_number most64 mark l).rest)
-  behind_number mark k h = by (read_number most64 mark l).there refl
-    where
-      by : (t : Bool) → (read_number most64 mark l).there ≡ t → Plain (take k (read_number most64 mark l).rest)
-      by true e =
-          let v = (read_number most64 mark l).value in
-          behind_word (number_word mark v) (read_number most64 mark l).rest l 21 k n (number_back most64 mark l (omega arith) e) (number_short mark v) h plain
-      by false e = subst (λ (m : List ℕ). Plain (take k m)) (sym (number_lost most64 mark l e)) (plain_none k)
+-- what is read is one value and one rest
+some_rest : {A : Type 0} (a : A) (rest : List ℕ) (p : A × List ℕ) → Some (a, rest) ≡ Some p → rest ≡ p.1
+some_rest {A = A} a rest p e = subst (λ (r : Option (A × List ℕ)). IfSome r (λ q. rest ≡ q.1)) e refl
 
-  no_number : 21 ≤ n → (read_number most64 10 l).there ≡ false
+-- where nothing can be read behind a word, nothing is read
+none_behind : {A B : Type 0} (r : Option A) (next : A → Option B) → ((a : A) → r ≡ Some a → next a ≡ None) → (r >>= next) ≡ None
+none_behind None next none = refl
+none_behind (Some a) next none = none a refl
+
+-- what would be read is not there, where it contradicts
+not_there : {A : Type 0} (r : Option A) → ((a : A) → r ≡ Some a → ⊥) → r ≡ None
+not_there None never = refl
+not_there (Some a) never = absurd (never a refl)
+
+module _ (l : List ℕ) (n : ℕ) (plain : Plain (take n l)) where
+  behind_number : (mark k : ℕ) → 21 + k ≤ n → (p : ℕ × List ℕ) → read_number most64 mark l ≡ Some p → Plain (take k p.1)
+  behind_number mark k h p e = behind_word (number_word mark p.0) p.1 l 21 k n (number_back most64 mark small64 l p.0 p.1 e) (number_short mark p.0) h plain
+
+  no_number : 21 ≤ n → read_number most64 10 l ≡ None
   unfolding number_word
-  no_number h = by (read_number most64 10 l).there refl
-    where
-      by : (t : Bool) → (read_number most64 10 l).there ≡ t → (read_number most64 10 l).there ≡ false
-      by true e =
-          let v = (read_number most64 10 l).value in
-          absurd (newline_there (digits_in 20 v) (read_number most64 10 l).rest n (omega (arith, digits_short 20 v, h))
-          (subst (λ (m : List ℕ). Plain (take n m)) (number_back most64 10 l (omega arith) e ∙ append_assoc (digits_in 20 v) (10 ∷ []) (read_number most64 10 l).rest) plain))
-      by false e = e
+  no_number h =
+      not_there (read_number most64 10 l) (λ (p : ℕ × List ℕ) e.
+      newline_there (digits_in 20 p.0) p.1 n (omega (arith, digits_short 20 p.0, h))
+      (subst (λ (m : List ℕ). Plain (take n m)) (number_back most64 10 small64 l p.0 p.1 e ∙ append_assoc (digits_in 20 p.0) (10 ∷ []) p.1) plain))
 
 -- leading zeros
 zeros_are : (k : ℕ) (l : List ℕ) → (j : ℕ) × ((j ≤ k) × (unpadded k l ≡ drop j l))
@@ -107,11 +111,11 @@ module _ (l : List ℕ) (n : ℕ) (plain : Plain (take n l)) where
       let z = zeros_are 19 l in
       subst (λ (m : List ℕ). Plain (take k m)) (sym z.1.1) (plain_behind z.0 k n l (omega (arith, z.1.0, h)) plain)
 
-  behind_argument : (k : ℕ) → 40 + k ≤ n → Plain (take k (argument l).rest)
+  behind_argument : (k : ℕ) → 40 + k ≤ n → (p : ℕ × List ℕ) → argument l ≡ Some p → Plain (take k p.1)
   unfolding read_argument
   behind_argument k h = behind_number (unpadded 19 l) (21 + k) (past_zeros (21 + k) (omega (arith, h))) 32 k (omega arith)
 
-  no_last_argument : 40 ≤ n → (last_argument l).there ≡ false
+  no_last_argument : 40 ≤ n → last_argument l ≡ None
   unfolding read_argument
   no_last_argument h = no_number (unpadded 19 l) 21 (past_zeros 21 (omega (arith, h))) (omega arith)
 
@@ -162,108 +166,101 @@ channel_marked mark ch =
     (behind_it mark (generator_word 47 ch.second) third
     (behind_it mark (generator_word 47 ch.third) fourth (generator_marked mark ch.fourth))))))))
 
-channel_lost : (mark : ℕ) (l : List ℕ) → (read_channel mark l).there ≡ false → (read_channel mark l).rest ≡ []
-unfolding read_channel
-channel_lost mark l e = generator_lost mark _ e
-
 module _ (l : List ℕ) (n : ℕ) (plain : Plain (take n l)) where
-  behind_channel : (k : ℕ) → 445 + k ≤ n → Plain (take k (read_channel 32 l).rest)
-  behind_channel k h = by (read_channel 32 l).there refl
-    where
-      by : (t : Bool) → (read_channel 32 l).there ≡ t → Plain (take k (read_channel 32 l).rest)
-      by true e =
-          let ch = (read_channel 32 l).value in
-          behind_word (channel_word 32 ch) (read_channel 32 l).rest l 445 k n (back 32 l e) (channel_short 32 ch) h plain
-      by false e = subst (λ (m : List ℕ). Plain (take k m)) (sym (channel_lost 32 l e)) (plain_none k)
+  behind_channel : (k : ℕ) → 445 + k ≤ n → (p : Channel × List ℕ) → read_channel 32 l ≡ Some p → Plain (take k p.1)
+  behind_channel k h p e = behind_word (channel_word 32 p.0) p.1 l 445 k n (back 32 l p.0 p.1 e) (channel_short 32 p.0) h plain
 
-  no_channel : 445 ≤ n → (read_channel 10 l).there ≡ false
-  no_channel h = by (read_channel 10 l).there refl
-    where
-      by : (t : Bool) → (read_channel 10 l).there ≡ t → (read_channel 10 l).there ≡ false
-      by true e =
-          let ch = (read_channel 10 l).value in
-          let m = channel_marked 10 ch in
-          let rest = (read_channel 10 l).rest in
-          let long : length (channel_word 10 ch) ≡ length m.0 + 1 = ap length m.1 ∙ length-append m.0 (10 ∷ []) in
-          absurd (newline_there m.0 rest n (omega (arith, long, channel_short 10 ch, h))
-          (subst (λ (t : List ℕ). Plain (take n t)) (back 10 l e ∙ ap (λ (w : List ℕ). w ++ rest) m.1 ∙ append_assoc m.0 (10 ∷ []) rest) plain))
-      by false e = e
+  no_channel : 445 ≤ n → read_channel 10 l ≡ None
+  no_channel h =
+      not_there (read_channel 10 l) (λ (p : Channel × List ℕ) e.
+      let m = channel_marked 10 p.0 in
+      let long : length (channel_word 10 p.0) ≡ length m.0 + 1 = ap length m.1 ∙ length-append m.0 (10 ∷ []) in
+      newline_there m.0 p.1 n (omega (arith, long, channel_short 10 p.0, h))
+      (subst (λ (t : List ℕ). Plain (take n t)) (back 10 l p.0 p.1 e ∙ ap (λ (w : List ℕ). w ++ p.1) m.1 ∙ append_assoc m.0 (10 ∷ []) p.1) plain))
 
 -- `.` and its mark, or a channel's word
-module _ (last : Last) (l : List ℕ) (n : ℕ) (plain : Plain (take n l)) where
-  behind_named : (k : ℕ) → 445 + k ≤ n → Plain (take k (read_named last 32 l).rest)
+module _ (last : Option Channel) (l : List ℕ) (n : ℕ) (plain : Plain (take n l)) where
+  behind_named : (k : ℕ) → 445 + k ≤ n → (p : Channel × List ℕ) → read_named last 32 l ≡ Some p → Plain (take k p.1)
   unfolding read_named
-  behind_named k h = by (begins (46 ∷ 32 ∷ []) l) last.opened
+  behind_named k h p e = by (begins (46 ∷ 32 ∷ []) l) last e
     where
-      by : (dot opened : Bool)
-          → Plain (take k (cond dot (cond opened (found last.channel (drop 2 l)) (missing last.channel)) (read_channel 32 l)).rest)
-      by true true = plain_behind 2 k n l (omega (arith, h)) plain
-      by true false = plain_none k
-      by false opened = behind_channel l n plain k h
+      by : (dot : Bool) (last : Option Channel) → cond dot (option_map (λ ch. (ch, drop 2 l)) last) (read_channel 32 l) ≡ Some p → Plain (take k p.1)
+      by true None e = absurd (none-some p e)
+      by true (Some ch) e = subst (λ (m : List ℕ). Plain (take k m)) (some_rest ch (drop 2 l) p e) (plain_behind 2 k n l (omega (arith, h)) plain)
+      by false last e = behind_channel l n plain k h p e
 
   no_dot : 2 ≤ n → begins (46 ∷ 10 ∷ []) l ≡ false
   no_dot h = no_word (46 ∷ []) l n (omega (arith, h)) plain
 
-  no_last_named : 445 ≤ n → (read_named last 10 l).there ≡ false
+  no_last_named : 445 ≤ n → read_named last 10 l ≡ None
   unfolding read_named
   no_last_named h = rw (no_dot (omega (arith, h))) (no_channel l n plain h)
 
--- ---- commands
-
--- a command whose last argument is not there
-none : (t : Bool) (c : Command) → t ≡ false → whole t c ≡ commands.Error
-none t c e = rw e refl
+-- ---- commands, of which the last argument is not there
 
 module _ (l : List ℕ) (n : ℕ) (plain : Plain (take n l)) (long : 600 ≤ n) where
-  late_open : read_open l ≡ commands.Error
+  -- one argument more, and what cannot be read behind it
+  one_more : (m : ℕ) (r : List ℕ) (k : ℕ) {B : Type 0} (next : ℕ × List ℕ → Option B) → Plain (take m r) → 40 + k ≤ m
+      → ((p : ℕ × List ℕ) → Plain (take k p.1) → next p ≡ None) → (argument r >>= next) ≡ None
+  one_more m r k next plain_here h none = none_behind (argument r) next (λ (p : ℕ × List ℕ) e. none p (behind_argument r m plain_here k h p e))
+
+  -- the last one
+  no_more : (m : ℕ) (r : List ℕ) {B : Type 0} (next : ℕ × List ℕ → Option B) → Plain (take m r) → 40 ≤ m → (last_argument r >>= next) ≡ None
+  no_more m r next plain_here h = ap (λ (p : Read ℕ). p >>= next) (no_last_argument r m plain_here h)
+
+  late_open : read_open l ≡ None
   unfolding read_open
-  late_open = none _ _ (no_last_argument (argument l).rest 40 (behind_argument l n plain 40 (omega (arith, long))) (omega arith))
+  late_open = one_more n l 40 _ plain (omega (arith, long)) (λ p here. no_more 40 p.1 _ here (omega arith))
 
-  late_reading : read_reading l ≡ commands.Error
+  late_reading : read_reading l ≡ None
   unfolding read_reading
-  late_reading = none _ _ (no_last_argument (argument l).rest 40 (behind_argument l n plain 40 (omega (arith, long))) (omega arith))
+  late_reading = one_more n l 40 _ plain (omega (arith, long)) (λ p here. no_more 40 p.1 _ here (omega arith))
 
-  two_behind : Plain (take 40 (argument (argument l).rest).rest)
-  two_behind = behind_argument (argument l).rest 80 (behind_argument l n plain 80 (omega (arith, long))) 40 (omega arith)
-
-  late_place_of : read_place_of l ≡ commands.Error
+  late_place_of : read_place_of l ≡ None
   unfolding read_place_of
-  late_place_of = none _ _ (no_last_argument (argument (argument l).rest).rest 40 two_behind (omega arith))
+  late_place_of =
+      one_more n l 80 _ plain (omega (arith, long)) (λ p here.
+      one_more 80 p.1 40 _ here (omega arith) (λ q there. no_more 40 q.1 _ there (omega arith)))
 
-  late_gap : read_gap l ≡ commands.Error
+  late_gap : read_gap l ≡ None
   unfolding read_gap
-  late_gap = none _ _ (no_last_argument (argument (argument l).rest).rest 40 two_behind (omega arith))
+  late_gap =
+      one_more n l 80 _ plain (omega (arith, long)) (λ p here.
+      one_more 80 p.1 40 _ here (omega arith) (λ q there. no_more 40 q.1 _ there (omega arith)))
 
-  late_chips : read_chips l ≡ commands.Error
+  late_chips : read_chips l ≡ None
   unfolding read_chips
   late_chips =
-      let first = (argument l).rest in
-      let second = (argument first).rest in
-      let third = (argument second).rest in
-      none _ _ (no_last_argument third 40 (behind_argument second 80 (behind_argument first 120 (behind_argument l n plain 120 (omega (arith, long))) 80 (omega arith)) 40 (omega arith)) (omega arith))
+      one_more n l 120 _ plain (omega (arith, long)) (λ p here.
+      one_more 120 p.1 80 _ here (omega arith) (λ q there.
+      one_more 80 q.1 40 _ there (omega arith) (λ r behind. no_more 40 r.1 _ behind (omega arith))))
 
-  module _ (last : Last) where
-    late_seek : read_seek last l ≡ commands.Error
+  module _ (last : Option Channel) where
+    -- a channel, and what cannot be read behind it
+    channel_more : (k : ℕ) {B : Type 0} (next : Channel × List ℕ → Option B) → 445 + k ≤ n
+        → ((p : Channel × List ℕ) → Plain (take k p.1) → next p ≡ None) → (read_named last 32 l >>= next) ≡ None
+    channel_more k next h none = none_behind (read_named last 32 l) next (λ (p : Channel × List ℕ) e. none p (behind_named last l n plain k h p e))
+
+    late_seek : read_seek last l ≡ None
     unfolding read_seek
-    late_seek = none _ _ (no_last_argument (read_named last 32 l).rest 40 (behind_named last l n plain 40 (omega (arith, long))) (omega arith))
+    late_seek = channel_more 40 _ (omega (arith, long)) (λ p here. no_more 40 p.1 _ here (omega arith))
 
-    late_step : read_step last l ≡ commands.Error
+    late_step : read_step last l ≡ None
     unfolding read_step
-    late_step = none _ _ (no_last_named last l n plain (omega (arith, long)))
+    late_step = ap (λ (r : Read Channel). r >>= (λ ch. Some (commands.Step ch.0))) (no_last_named last l n plain (omega (arith, long)))
 
-    late_window : read_window last l ≡ commands.Error
+    late_window : read_window last l ≡ None
     unfolding read_window
     late_window =
-        let named = (read_named last 32 l).rest in
-        let count = (argument named).rest in
-        let bytes = (argument count).rest in
-        none _ _ (no_last_argument bytes 40 (behind_argument count 80 (behind_argument named 120 (behind_named last l n plain 120 (omega (arith, long))) 80 (omega arith)) 40 (omega arith)) (omega arith))
+        channel_more 120 _ (omega (arith, long)) (λ p here.
+        one_more 120 p.1 80 _ here (omega arith) (λ q there.
+        one_more 80 q.1 40 _ there (omega arith) (λ r behind. no_more 40 r.1 _ behind (omega arith))))
 
-either : (t : Bool) (x y : Command) → x ≡ commands.Error → y ≡ commands.Error → cond t x y ≡ commands.Error
+either : (t : Bool) (x y : Option Command) → x ≡ None → y ≡ None → cond t x y ≡ None
 either true x y e f = e
 either false x y e f = f
 
-pub late : (last : Last) (l : List ℕ) → Plain (take 640 l) → command_of last l ≡ commands.Error
+pub late : (last : Option Channel) (l : List ℕ) → Plain (take 640 l) → command_of last l ≡ None
 unfolding command_of
 late last l plain =
     let behind : (j : ℕ) → j + 600 ≤ 640 → Plain (take 600 (drop j l)) = λ (j : ℕ) (h : j + 600 ≤ 640). plain_behind j 600 640 l h plain in
@@ -275,4 +272,4 @@ late last l plain =
     (either (begins reading_word l) _ _ (late_reading (drop 8 l) 600 (behind 8 (omega arith)) (omega arith))
     (either (begins place_of_word l) _ _ (late_place_of (drop 8 l) 600 (behind 8 (omega arith)) (omega arith))
     (either (begins gap_word l) _ _ (late_gap (drop 4 l) 600 (behind 4 (omega arith)) (omega arith))
-    (ap (λ (t : Bool). cond t commands.Help commands.Error) (no_word (104 ∷ 101 ∷ 108 ∷ 112 ∷ []) l 640 (omega arith) plain)))))))))
+    (ap (λ (t : Bool). cond t (Some commands.Help) None) (no_word (104 ∷ 101 ∷ 108 ∷ 112 ∷ []) l 640 (omega arith) plain)))))))))

@@ -1,11 +1,10 @@
 -- What a line of the console asks for: a word and its arguments, one space between, a newline behind the last. Bytes are those of ASCII: 10 is a
 -- newline, 32 a space, 46 is `.`.
 -- Assumes nothing.
-use Rattle.std.specs.Prelude.{ℕ, Bool, true, false, cond, ◌&&◌, List, [], ◌∷◌, eqb, drop}
+use Rattle.std.specs.Prelude.{ℕ, Bool, true, false, ◌&&◌, List, [], ◌∷◌, drop, Option, Some, None, option_map, ◌==◌, if◌then◌else◌}
 use Rattle.machine.specs.declared.Channel.{Channel}
-use Rattle.numbers.specs.Numbers.{Read, found, missing, read_argument}
+use Rattle.numbers.specs.Numbers.{Read, ◌>>=◌, read_argument}
 use Rattle.words.specs.Words.{read_channel}
-use Rattle.words.specs.declared.Last.{Last}
 use Rattle.commands.specs.declared.Command.{Command}
 use Rattle.commands.specs.declared.Command.TheVariants as commands
 
@@ -13,7 +12,7 @@ use Rattle.commands.specs.declared.Command.TheVariants as commands
 abbrev pub begins : List ℕ → List ℕ → Bool
 begins [] text = true
 begins (b ∷ bs) [] = false
-begins (b ∷ bs) (t ∷ ts) = eqb b t && begins bs ts
+begins (b ∷ bs) (t ∷ ts) = (b == t) && begins bs ts
 
 -- ---- arguments
 
@@ -24,78 +23,87 @@ argument text = read_argument 32 text
 abbrev pub last_argument : List ℕ → Read ℕ
 last_argument text = read_argument 10 text
 
+-- the last two, and the last three
+abbrev pub two_arguments : List ℕ → Option (ℕ × ℕ)
+two_arguments text = do
+  first ← argument text
+  second ← last_argument first.1
+  Some (first.0, second.0)
+
+abbrev pub three_arguments : List ℕ → Option (ℕ × ℕ × ℕ)
+three_arguments text = do
+  first ← argument text
+  second ← argument first.1
+  third ← last_argument second.1
+  Some (first.0, second.0, third.0)
+
 -- A channel: `.` stands for the one that the last call handed back, once an open was accepted.
-unfoldable pub read_named : Last → ℕ → List ℕ → Read Channel
+unfoldable pub read_named : Option Channel → ℕ → List ℕ → Read Channel
 read_named last mark text =
-    cond (begins (46 ∷ mark ∷ []) text)
-    (cond last.opened (found last.channel (drop 2 text)) (missing last.channel))
-    (read_channel mark text)
+    if begins (46 ∷ mark ∷ []) text then option_map (λ ch. (ch, drop 2 text)) last else read_channel mark text
 
--- ---- commands, each by the text behind its word; where an argument is missing or wrong, so are those behind it
-
-abbrev pub whole : Bool → Command → Command
-whole there command = cond there command commands.Error
+-- ---- commands, each by the text behind its word; where an argument is missing or wrong, it is none
 
 -- `open S P`
-unfoldable pub read_open : List ℕ → Command
-read_open text =
-    let signal = argument text in
-    let prn = last_argument signal.rest in
-    whole prn.there (commands.Open signal.value prn.value)
+unfoldable pub read_open : List ℕ → Option Command
+read_open text = do
+  signal ← argument text
+  prn ← last_argument signal.1
+  Some (commands.Open signal.0 prn.0)
 
 -- `seek CH PLACE`
-unfoldable pub read_seek : Last → List ℕ → Command
-read_seek last text =
-    let ch = read_named last 32 text in
-    let place = last_argument ch.rest in
-    whole place.there (commands.Seek ch.value place.value)
+unfoldable pub read_seek : Option Channel → List ℕ → Option Command
+read_seek last text = do
+  ch ← read_named last 32 text
+  place ← last_argument ch.1
+  Some (commands.Seek ch.0 place.0)
 
 -- `step CH`
-unfoldable pub read_step : Last → List ℕ → Command
-read_step last text =
-    let ch = read_named last 10 text in
-    whole ch.there (commands.Step ch.value)
+unfoldable pub read_step : Option Channel → List ℕ → Option Command
+read_step last text = do
+  ch ← read_named last 10 text
+  Some (commands.Step ch.0)
 
 -- `window CH COUNT LENGTH AT`
-unfoldable pub read_window : Last → List ℕ → Command
-read_window last text =
-    let ch = read_named last 32 text in
-    let count = argument ch.rest in
-    let bytes = argument count.rest in
-    let at = last_argument bytes.rest in
-    whole at.there (commands.Window ch.value count.value bytes.value at.value)
+unfoldable pub read_window : Option Channel → List ℕ → Option Command
+read_window last text = do
+  ch ← read_named last 32 text
+  count ← argument ch.1
+  bytes ← argument count.1
+  at ← last_argument bytes.1
+  Some (commands.Window ch.0 count.0 bytes.0 at.0)
 
 -- `chips S P PLACE LENGTH`
-unfoldable pub read_chips : List ℕ → Command
-read_chips text =
-    let signal = argument text in
-    let prn = argument signal.rest in
-    let place = argument prn.rest in
-    let bytes = last_argument place.rest in
-    whole bytes.there (commands.Chips signal.value prn.value place.value bytes.value)
+unfoldable pub read_chips : List ℕ → Option Command
+read_chips text = do
+  signal ← argument text
+  prn ← argument signal.1
+  place ← argument prn.1
+  bytes ← last_argument place.1
+  Some (commands.Chips signal.0 prn.0 place.0 bytes.0)
 
 -- `reading S PLACE`
-unfoldable pub read_reading : List ℕ → Command
-read_reading text =
-    let signal = argument text in
-    let place = last_argument signal.rest in
-    whole place.there (commands.Reading signal.value place.value)
+unfoldable pub read_reading : List ℕ → Option Command
+read_reading text = do
+  signal ← argument text
+  place ← last_argument signal.1
+  Some (commands.Reading signal.0 place.0)
 
 -- `placeof S EPOCH CHIP`
-unfoldable pub read_place_of : List ℕ → Command
-read_place_of text =
-    let signal = argument text in
-    let epoch = argument signal.rest in
-    let chip = last_argument epoch.rest in
-    whole chip.there (commands.PlaceOf signal.value epoch.value chip.value)
+unfoldable pub read_place_of : List ℕ → Option Command
+read_place_of text = do
+  signal ← argument text
+  epoch ← argument signal.1
+  chip ← last_argument epoch.1
+  Some (commands.PlaceOf signal.0 epoch.0 chip.0)
 
 -- `gap S A B`
-unfoldable pub read_gap : List ℕ → Command
-read_gap text =
-    let signal = argument text in
-    let a = argument signal.rest in
-    let b = last_argument a.rest in
-    whole b.there (commands.Gap signal.value a.value b.value)
+unfoldable pub read_gap : List ℕ → Option Command
+read_gap text = do
+  signal ← argument text
+  a ← argument signal.1
+  b ← last_argument a.1
+  Some (commands.Gap signal.0 a.0 b.0)
 
 -- ---- a line
 
@@ -127,14 +135,16 @@ gap_word = 103 ∷ 97 ∷ 112 ∷ 32 ∷ []
 abbrev pub help_word : List ℕ
 help_word = 104 ∷ 101 ∷ 108 ∷ 112 ∷ 10 ∷ []
 
-unfoldable pub command_of : Last → List ℕ → Command
+-- a line that is no command is none
+unfoldable pub command_of : Option Channel → List ℕ → Option Command
 command_of last line =
-    cond (begins open_word line) (read_open (drop 5 line))
-    (cond (begins seek_word line) (read_seek last (drop 5 line))
-    (cond (begins step_word line) (read_step last (drop 5 line))
-    (cond (begins window_word line) (read_window last (drop 7 line))
-    (cond (begins chips_word line) (read_chips (drop 6 line))
-    (cond (begins reading_word line) (read_reading (drop 8 line))
-    (cond (begins place_of_word line) (read_place_of (drop 8 line))
-    (cond (begins gap_word line) (read_gap (drop 4 line))
-    (cond (begins help_word line) commands.Help commands.Error))))))))
+    if begins open_word line then read_open (drop 5 line)
+    else if begins seek_word line then read_seek last (drop 5 line)
+    else if begins step_word line then read_step last (drop 5 line)
+    else if begins window_word line then read_window last (drop 7 line)
+    else if begins chips_word line then read_chips (drop 6 line)
+    else if begins reading_word line then read_reading (drop 8 line)
+    else if begins place_of_word line then read_place_of (drop 8 line)
+    else if begins gap_word line then read_gap (drop 4 line)
+    else if begins help_word line then Some commands.Help
+    else None

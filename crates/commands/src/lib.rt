@@ -1,15 +1,14 @@
 // A line of the console, and the command in it. A line is given with its newline.
 #![tactic(auto)]
 
-ghost use Rattle.std.specs.Prelude.{◌≡◌, ◌≤◌, length, drop};
-ghost use Rattle.words.specs.Words.{of_channel};
-ghost use Rattle.commands.specs.Commands.{begins, read_named, read_open, read_seek, read_step, read_window, read_chips, read_reading, read_place_of, read_gap, command_of};
+ghost use Rattle.std.specs.Prelude.{◌≡◌, true, false, length, drop, MatchOption};
+ghost use Rattle.numbers.specs.Numbers.{of_read};
+ghost use Rattle.commands.specs.Commands.{begins, two_arguments, three_arguments, read_named, read_open, read_seek, read_step, read_window, read_chips, read_reading, read_place_of, read_gap, command_of};
 
 use machine::Channel;
-use words::{ChannelRead, Last};
 
 // A call with its arguments, in the order of the engine's.
-#[derive(Clone, Copy)]
+#[derive(Clone, Copy, Debug, PartialEq, Eq)]
 pub enum Command {
     Open(u64, u64),
     Seek(Channel, u64),
@@ -22,190 +21,144 @@ pub enum Command {
     PlaceOf(u64, u64, u64),
     Gap(u64, u64, u64),
     Help,
-    // A line that is none of these.
-    Error,
 }
 
-// Whether a text begins with a word.
-fn begins(text: &[u8], word: &[u8]) -> bool
-    ensures { result ≡ begins word.now text.now }
+// What stands behind a word, where a text begins with it.
+fn behind<'a>(text: &'a [u8], word: &[u8]) -> Option<&'a [u8]>
+    ensures { MatchOption result (begins word.now text.now ≡ false) (λ rest. (begins word.now text.now ≡ true) × (rest.now ≡ drop (length word.now) text.now)) }
 {
-    let mut i = 0;
-    while i < word.len() {
-        if text.len() <= i {
-            return false;
-        }
-        if word[i] != text[i] {
-            return false;
-        }
-        i += 1;
-    }
-    true
+    text.strip_prefix(word)
 }
 
 // A channel's word, or `.`, up to its mark.
-fn read_named(line: &[u8], at: usize, mark: u8, last: Last) -> ChannelRead
-    requires { at ≤ length line.now }
-    ensures result_value { of_channel line.now result ≡ read_named last mark (drop at line.now) }
-    ensures end_in_bounds { result.end ≤ length line.now }
+#[tactic(auto, unfolding(crate::specs::Commands::read_named))]
+fn read_named(text: &[u8], mark: u8, last: Option<Channel>) -> Option<(Channel, &[u8])>
+    ensures { of_read result ≡ read_named last mark text.now }
 {
-    let dot = [b'.', mark];
-    if !begins(&line[at..], &dot) {
-        return words::read_channel(line, at, mark);
-    }
-    let channel = last.channel;
-    if !last.opened {
-        return ChannelRead {
-            there: false,
-            channel,
-            end: line.len(),
-        };
-    }
-    ChannelRead {
-        there: true,
-        channel,
-        end: at + 2,
+    match behind(text, &[b'.', mark]) {
+        Some(rest) => Some((last?, rest)),
+        None => words::read_channel(text, mark),
     }
 }
 
-// ---- the arguments of each command, from `at` on
+// ---- the arguments of each command, given the text behind its word
 
-fn read_open(line: &[u8], at: usize) -> Command
-    requires { at ≤ length line.now }
-    ensures { result ≡ read_open (drop at line.now) }
+fn two_arguments(text: &[u8]) -> Option<(u64, u64)>
+    ensures { result ≡ two_arguments text.now }
 {
-    let signal = numbers::read_argument(line, at, b' ');
-    let prn = numbers::read_argument(line, signal.end, b'\n');
-    if !prn.there {
-        return Command::Error;
-    }
-    Command::Open(signal.value, prn.value)
+    let (first, rest) = numbers::read_argument(text, b' ')?;
+    let (second, _) = numbers::read_argument(rest, b'\n')?;
+    Some((first, second))
 }
 
-fn read_seek(line: &[u8], at: usize, last: Last) -> Command
-    requires { at ≤ length line.now }
-    ensures { result ≡ read_seek last (drop at line.now) }
+fn three_arguments(text: &[u8]) -> Option<(u64, u64, u64)>
+    ensures { result ≡ three_arguments text.now }
 {
-    let named = read_named(line, at, b' ', last);
-    let place = numbers::read_argument(line, named.end, b'\n');
-    if !place.there {
-        return Command::Error;
-    }
-    let ch = named.channel;
-    Command::Seek(ch, place.value)
+    let (first, rest) = numbers::read_argument(text, b' ')?;
+    let (second, third) = two_arguments(rest)?;
+    Some((first, second, third))
 }
 
-fn read_step(line: &[u8], at: usize, last: Last) -> Command
-    requires { at ≤ length line.now }
-    ensures { result ≡ read_step last (drop at line.now) }
+// A reader for each command, by the definition of its name: where two are of one shape they differ in the command that they name, and one for both would be
+// handed that.
+#[tactic(auto, unfolding(crate::specs::Commands::read_open))]
+fn read_open(text: &[u8]) -> Option<Command>
+    ensures { result ≡ read_open text.now }
 {
-    let named = read_named(line, at, b'\n', last);
-    if !named.there {
-        return Command::Error;
-    }
-    let ch = named.channel;
-    Command::Step(ch)
+    let (signal, prn) = two_arguments(text)?;
+    Some(Command::Open(signal, prn))
 }
 
-fn read_window(line: &[u8], at: usize, last: Last) -> Command
-    requires { at ≤ length line.now }
-    ensures { result ≡ read_window last (drop at line.now) }
+#[tactic(auto, unfolding(crate::specs::Commands::read_seek))]
+fn read_seek(text: &[u8], last: Option<Channel>) -> Option<Command>
+    ensures { result ≡ read_seek last text.now }
 {
-    let named = read_named(line, at, b' ', last);
-    let count = numbers::read_argument(line, named.end, b' ');
-    let bytes = numbers::read_argument(line, count.end, b' ');
-    let from = numbers::read_argument(line, bytes.end, b'\n');
-    if !from.there {
-        return Command::Error;
-    }
-    let ch = named.channel;
-    Command::Window(ch, count.value, bytes.value, from.value)
+    let (ch, rest) = read_named(text, b' ', last)?;
+    let (place, _) = numbers::read_argument(rest, b'\n')?;
+    Some(Command::Seek(ch, place))
 }
 
-fn read_chips(line: &[u8], at: usize) -> Command
-    requires { at ≤ length line.now }
-    ensures { result ≡ read_chips (drop at line.now) }
+#[tactic(auto, unfolding(crate::specs::Commands::read_step))]
+fn read_step(text: &[u8], last: Option<Channel>) -> Option<Command>
+    ensures { result ≡ read_step last text.now }
 {
-    let signal = numbers::read_argument(line, at, b' ');
-    let prn = numbers::read_argument(line, signal.end, b' ');
-    let place = numbers::read_argument(line, prn.end, b' ');
-    let bytes = numbers::read_argument(line, place.end, b'\n');
-    if !bytes.there {
-        return Command::Error;
-    }
-    Command::Chips(signal.value, prn.value, place.value, bytes.value)
+    let (ch, _) = read_named(text, b'\n', last)?;
+    Some(Command::Step(ch))
 }
 
-fn read_reading(line: &[u8], at: usize) -> Command
-    requires { at ≤ length line.now }
-    ensures { result ≡ read_reading (drop at line.now) }
+#[tactic(auto, unfolding(crate::specs::Commands::read_window))]
+fn read_window(text: &[u8], last: Option<Channel>) -> Option<Command>
+    ensures { result ≡ read_window last text.now }
 {
-    let signal = numbers::read_argument(line, at, b' ');
-    let place = numbers::read_argument(line, signal.end, b'\n');
-    if !place.there {
-        return Command::Error;
-    }
-    Command::Reading(signal.value, place.value)
+    let (ch, rest) = read_named(text, b' ', last)?;
+    let (count, bytes, from) = three_arguments(rest)?;
+    Some(Command::Window(ch, count, bytes, from))
 }
 
-fn read_place_of(line: &[u8], at: usize) -> Command
-    requires { at ≤ length line.now }
-    ensures { result ≡ read_place_of (drop at line.now) }
+#[tactic(auto, unfolding(crate::specs::Commands::read_chips))]
+fn read_chips(text: &[u8]) -> Option<Command>
+    ensures { result ≡ read_chips text.now }
 {
-    let signal = numbers::read_argument(line, at, b' ');
-    let epoch = numbers::read_argument(line, signal.end, b' ');
-    let chip = numbers::read_argument(line, epoch.end, b'\n');
-    if !chip.there {
-        return Command::Error;
-    }
-    Command::PlaceOf(signal.value, epoch.value, chip.value)
+    let (signal, rest) = numbers::read_argument(text, b' ')?;
+    let (prn, place, bytes) = three_arguments(rest)?;
+    Some(Command::Chips(signal, prn, place, bytes))
 }
 
-fn read_gap(line: &[u8], at: usize) -> Command
-    requires { at ≤ length line.now }
-    ensures { result ≡ read_gap (drop at line.now) }
+#[tactic(auto, unfolding(crate::specs::Commands::read_reading))]
+fn read_reading(text: &[u8]) -> Option<Command>
+    ensures { result ≡ read_reading text.now }
 {
-    let signal = numbers::read_argument(line, at, b' ');
-    let a = numbers::read_argument(line, signal.end, b' ');
-    let b = numbers::read_argument(line, a.end, b'\n');
-    if !b.there {
-        return Command::Error;
-    }
-    Command::Gap(signal.value, a.value, b.value)
+    let (signal, place) = two_arguments(text)?;
+    Some(Command::Reading(signal, place))
+}
+
+#[tactic(auto, unfolding(crate::specs::Commands::read_place_of))]
+fn read_place_of(text: &[u8]) -> Option<Command>
+    ensures { result ≡ read_place_of text.now }
+{
+    let (signal, epoch, chip) = three_arguments(text)?;
+    Some(Command::PlaceOf(signal, epoch, chip))
+}
+
+#[tactic(auto, unfolding(crate::specs::Commands::read_gap))]
+fn read_gap(text: &[u8]) -> Option<Command>
+    ensures { result ≡ read_gap text.now }
+{
+    let (signal, a, b) = three_arguments(text)?;
+    Some(Command::Gap(signal, a, b))
 }
 
 // ---- a line
 
-// The command in a line.
-pub fn command_in(line: &[u8], last: Last) -> Command
+// The command in a line, if it is one. `last` is the channel that `.` stands for.
+#[tactic(auto, unfolding(crate::specs::Commands::command_of))]
+pub fn command_in(line: &[u8], last: Option<Channel>) -> Option<Command>
     ensures { result ≡ command_of last line.now }
 {
-    if begins(line, b"open ") {
-        return read_open(line, 5);
+    if let Some(rest) = behind(line, b"open ") {
+        return read_open(rest);
     }
-    if begins(line, b"seek ") {
-        return read_seek(line, 5, last);
+    if let Some(rest) = behind(line, b"seek ") {
+        return read_seek(rest, last);
     }
-    if begins(line, b"step ") {
-        return read_step(line, 5, last);
+    if let Some(rest) = behind(line, b"step ") {
+        return read_step(rest, last);
     }
-    if begins(line, b"window ") {
-        return read_window(line, 7, last);
+    if let Some(rest) = behind(line, b"window ") {
+        return read_window(rest, last);
     }
-    if begins(line, b"chips ") {
-        return read_chips(line, 6);
+    if let Some(rest) = behind(line, b"chips ") {
+        return read_chips(rest);
     }
-    if begins(line, b"reading ") {
-        return read_reading(line, 8);
+    if let Some(rest) = behind(line, b"reading ") {
+        return read_reading(rest);
     }
-    if begins(line, b"placeof ") {
-        return read_place_of(line, 8);
+    if let Some(rest) = behind(line, b"placeof ") {
+        return read_place_of(rest);
     }
-    if begins(line, b"gap ") {
-        return read_gap(line, 4);
+    if let Some(rest) = behind(line, b"gap ") {
+        return read_gap(rest);
     }
-    if begins(line, b"help\n") {
-        return Command::Help;
-    }
-    Command::Error
+    behind(line, b"help\n")?;
+    Some(Command::Help)
 }

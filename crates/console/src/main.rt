@@ -1,19 +1,16 @@
 // The console: reads commands from standard input, a line each, and answers each on standard output. `commands` says what a line asks for,
-// `channel_answers` and `place_answers` what a call is answered and `sessions` what is said in a whole session; this is a loop over that.
+// `channel_answers` and `place_answers` what a call is answered, `sessions` what is said in a whole session, and `line_programs` has
+// the loop over that.
 #![tactic(auto)]
 
-ghost use Rattle.std.specs.Prelude.{◌≡◌, ◌≤◌, length, IfOk, IfSome, OnOk};
+ghost use Rattle.std.specs.Prelude.{◌≤◌, length, IfSome, OnOk};
 ghost use Rattle.std.specs.Io.KnownBytes.{Appends};
-ghost use Rattle.sessions.specs.Sessions.{talk, replies, rest, last_answer, output as whole_output};
+ghost use Rattle.sessions.specs.Sessions.{output as whole_output};
 
-use answer_lines::MOST_LENGTH;
-use line_programs::{CHUNK, Failed};
-use sessions::{KEPT, State};
-use std::io;
+use arrayvec::ArrayVec;
+use line_programs::Failed;
+use sessions::Session;
 use std::io::{IsTerminal, Read, Write};
-
-// So many bytes of answers are written at once: any answer fits, and behind it as many bytes of short ones.
-const OUT: usize = 131_072;
 
 // What `help` is answered.
 fn help() -> [u8; 1400] {
@@ -43,91 +40,13 @@ For example: open 2 1, then seek . 15344999, window . 10 10 0, step .
 "
 }
 
-// The answers to a chunk, written as the buffer fills and at the chunk's end, so that someone who types a line sees its answer.
-fn answer<W: Write>(
-    line: &mut [u8],
-    start: State,
-    chunk: &[u8],
-    help: &[u8],
-    work: &mut [u8],
-    out: &mut [u8],
-    output: &mut W,
-) -> io::Result<State>
-    requires len_in_bounds { start.len ≤ length line.old }
-    requires line_len { length line.old ≡ 1024 }
-    requires help_len_bound { length help.now ≤ 66048 }
-    requires in_bounds { 131072 ≤ length work.old }
-    requires in_bounds_2 { 66048 ≤ length out.old }
-    ensures len { IfOk result (λ state. state.len ≤ 1024) }
-    ensures state { IfOk result (λ state. talk line.new state ≡ rest (talk line.old start) chunk.now) }
-    ensures written { OnOk result (Appends (W.contents output.old) (W.contents output.new) (replies help.now (talk line.old start) chunk.now)) }
-{
-    let mut state = start;
-    let mut at = 0;
-    while at < chunk.len() {
-        let fed = sessions::feed(line, state, &chunk[at..], help, work, out);
-        output.write_all(&out[..fed.n])?;
-        state = fed.state;
-        at += fed.used;
-    }
-    Ok(state)
-}
-
-// The answer that the input's end brings: that of a last line lacking its newline, if there is one.
-fn finish<W: Write>(
-    line: &mut [u8],
-    state: State,
-    help: &[u8],
-    work: &mut [u8],
-    out: &mut [u8],
-    output: &mut W,
-) -> io::Result<()>
-    requires len_in_bounds { state.len ≤ length line.old }
-    requires line_len { length line.old ≡ 1024 }
-    requires help_len_bound { length help.now ≤ 66048 }
-    requires in_bounds { 131072 ≤ length work.old }
-    requires in_bounds_2 { 66048 ≤ length out.old }
-    ensures { OnOk result (Appends (W.contents output.old) (W.contents output.new) (last_answer help.now (talk line.old state))) }
-{
-    let n = sessions::finish(line, state, help, work, out);
-    output.write_all(&out[..n])
-}
-
-// Reads and answers a chunk at a time, as it comes. A read that fails is not the end of the input: an unfinished line is left without an answer.
+// Reads and answers all of the input.
+#[tactic(auto, using(sessions::proofs::EverySession::every_input))]
 fn answer_all<R: Read, W: Write>(help: &[u8], input: &mut R, output: &mut W) -> Result<(), Failed>
     requires { length help.now ≤ 66048 }
     ensures { OnOk result (IfSome (R.remaining input.old) (λ bytes. Appends (W.contents output.old) (W.contents output.new) (whole_output help.now bytes))) }
 {
-    let mut line = [0u8; KEPT];
-    let mut work = [0u8; MOST_LENGTH];
-    let mut out = [0u8; OUT];
-    let mut buffer = [0u8; CHUNK];
-    let mut state = sessions::begun();
-    for _ in 0..u64::MAX {
-        let got = match input.read(&mut buffer) {
-            Ok(n) => n,
-            Err(e) => return Err(Failed::Input(e)),
-        };
-        if got == 0 {
-            return match finish(&mut line, state, help, &mut work, &mut out, output) {
-                Ok(()) => Ok(()),
-                Err(e) => Err(Failed::Output(e)),
-            };
-        }
-        state = match answer(
-            &mut line,
-            state,
-            &buffer[..got],
-            help,
-            &mut work,
-            &mut out,
-            output,
-        ) {
-            Ok(next) => next,
-            Err(e) => return Err(Failed::Output(e)),
-        };
-    }
-    Err(line_programs::too_many_reads())
+    line_programs::answer_all(&mut Session::new(help), &mut ArrayVec::new(), input, output)
 }
 
 // Who gives arguments, --help among them, is told what it does, and nothing is read. Who types the lines is told where to begin. Where standard error can't be

@@ -15,8 +15,8 @@ pub fn delayed(line: u64, x2: u64, prn: u32) -> u64
 
 // The delay line n chips later, by X2's next chips.
 pub fn line_after(line: u64, x2: u64, n: u32) -> u64
-    requires le_n { 1 ≤ n }
-    requires n_bound { n < 64 }
+    requires some_chips { 1 ≤ n }
+    requires part_of_word { n < 64 }
     ensures { result ≡ (line * 2 ^ n + x2 / 2 ^ (64 - n)) % 2 ^ 37 }
 {
     let kept = (line << n) % machine::LINE_LIMIT;

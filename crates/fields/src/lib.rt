@@ -1,7 +1,7 @@
-// The fields of a line of text: where a field ends, where the next one begins, and the number in it.
+// The fields of a line of text: what stands before a space and after it, and the number in a field.
 #![tactic(auto)]
 
-ghost use Rattle.std.specs.Prelude.{◌≡◌, true, ◌≤◌, ◌-◌, length, drop};
+ghost use Rattle.std.specs.Prelude.{◌≡◌, true, false, ◌≤◌, ◌-◌, length, MatchOption, OnSome};
 ghost use Rattle.fields.specs.Fields.{before, after, digit, digits, is_number, value, shorn};
 
 // What parts two fields.
@@ -10,60 +10,32 @@ const SPACE: u8 = b' ';
 // The digit that a number may begin with and lose.
 const ZERO: u8 = b'0';
 
-// How many bytes stand before the first space, or in all where there is none.
-pub fn cut(s: &[u8]) -> usize
-    ensures { result ≡ length (before s.now) }
+// The most digits that a number has.
+const MOST_DIGITS: usize = 13;
+
+// What stands before the first space and what stands after it; all and nothing, where there is none.
+pub fn split(s: &[u8]) -> (&[u8], &[u8])
+    ensures before { result.0.now ≡ before s.now }
+    ensures after { result.1.now ≡ after s.now }
 {
-    let mut i = 0;
-    while i < s.len() {
-        if s[i] == SPACE {
-            return i;
-        }
-        i += 1;
+    match s.iter().position(|b| *b == SPACE) {
+        Some(at) => (&s[..at], &s[at + 1..]),
+        None => (s, &[]),
     }
-    i
 }
 
-// Where what stands after the first space begins; at the end, where there is none.
-pub fn past(s: &[u8]) -> usize
-    ensures upper_bound { result ≤ length s.now }
-    ensures s_value { drop result s.now ≡ after s.now }
-{
-    let n = cut(s);
-    if n < s.len() { n + 1 } else { s.len() }
-}
-
+// Whether a byte is one of the ten digits of ASCII.
 pub fn is_digit(b: u8) -> bool
     ensures { result ≡ digit b }
 {
-    (b'0' <= b) & (b <= b'9')
+    b.is_ascii_digit()
 }
 
 // Whether all bytes are digits.
 fn all_digits(s: &[u8]) -> bool
     ensures { result ≡ digits s.now }
 {
-    let mut i = 0;
-    while i < s.len() {
-        if !is_digit(s[i]) {
-            return false;
-        }
-        i += 1;
-    }
-    true
-}
-
-// Whether the bytes are 1 to 13 digits.
-pub fn is_number(s: &[u8]) -> bool
-    ensures { result ≡ is_number s.now }
-{
-    (1 <= s.len()) & (s.len() <= 13) & all_digits(s)
-}
-
-fn wide(b: u8) -> u64
-    ensures { result ≡ b }
-{
-    b as u64
+    s.iter().all(|b| is_digit(*b))
 }
 
 // What a digit stands for.
@@ -71,34 +43,32 @@ pub fn digit_value(b: u8) -> u64
     requires { 48 ≤ b }
     ensures { result ≡ b - 48 }
 {
-    wide(b) - 48
+    u64::from(b - b'0')
 }
 
 // The number that 1 to 13 digits stand for.
-pub fn value_of(s: &[u8]) -> u64
-    requires { is_number s.now ≡ true }
-    ensures { result ≡ value s.now }
+pub fn number(s: &[u8]) -> Option<u64>
+    ensures value { MatchOption result (is_number s.now ≡ false) (λ n. (is_number s.now ≡ true) × (n ≡ value s.now)) }
+    ensures short { OnSome result (length s.now ≤ 13) }
 {
-    let mut n: u64 = 0;
-    let mut i = 0;
-    while i < s.len() {
-        n = n * 10 + digit_value(s[i]);
-        i += 1;
+    if s.is_empty() || MOST_DIGITS < s.len() || !all_digits(s) {
+        return None;
     }
-    n
+    let mut n = 0;
+    for b in s {
+        n = n * 10 + digit_value(*b);
+    }
+    Some(n)
 }
 
-// How many leading zeros are to be dropped: all but the last byte at most.
-pub fn leading_zeros(s: &[u8]) -> usize
-    ensures upper_bound { result ≤ length s.now }
-    ensures s_value { drop result s.now ≡ shorn s.now }
+// A number with its leading zeros dropped, all but the last digit at most.
+pub fn without_zeros(s: &[u8]) -> &[u8]
+    ensures value { result.now ≡ shorn s.now }
+    ensures short { length result.now ≤ length s.now }
 {
-    let mut i = 0;
-    while i + 1 < s.len() {
-        if s[i] != ZERO {
-            return i;
-        }
-        i += 1;
+    let last = s.len().saturating_sub(1);
+    match s[..last].iter().position(|b| *b != ZERO) {
+        Some(zeros) => &s[zeros..],
+        None => &s[last..],
     }
-    i
 }

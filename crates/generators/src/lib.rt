@@ -1,14 +1,17 @@
-// One step of each generator, given that generator alone. One that is never held has no test of its mode. A start that depends on the PRN is handed
-// in, so that no table is read here.
+// One step of each generator, given that generator alone: ten types of one trait, and a step written once. One that is never held has no test of its
+// mode. A start is handed in, since it may depend on the PRN, so that no table is read here.
 #![tactic(auto)]
 
-ghost use Rattle.std.specs.Prelude.{◌≡◌, false, ◌+◌, ◌<◌, ◌≤◌, ◌^◌};
+ghost use Rattle.std.specs.Prelude.{◌≡◌, ◌+◌, ◌<◌, ◌≤◌, ◌^◌, MatchOption, refl};
 ghost use Rattle.machine.specs.declared.Mode.TheVariants.{Running};
-ghost use Rattle.machine.specs.Generators.{fresh, restarted, moved, held_with, step_in, step_generator, held_at, held_at_end};
+ghost use Rattle.machine.specs.Generators.{Kind, fresh, restarted, moved, held_with, step_in, step_generator, held_at};
 ghost use Rattle.machine.specs.Signals.{g1, g2, x1a, x1b, x2a, x2b, cm, cl, xa, xb};
 ghost use Rattle.machine.specs.Ranged.{RangedKind};
+ghost use Rattle.generators.specs.Codes.{arrival_of, NeverHeld, HeldBy};
 
+use leap_tables::Leaping;
 use machine::{Generator, Mode};
+use registers::{G1, G2, L2, Register, X1A, X1B, X2A, X2B, XA, XB};
 
 // ---- what a step does
 
@@ -50,7 +53,7 @@ pub fn move_on(g: Generator, shifted: u32, arrival: Mode) -> Generator
 }
 
 // Held, with so many chips still to repeat.
-fn hold(g: Generator, chips: u32) -> Generator
+fn held_with(g: Generator, chips: u32) -> Generator
     ensures { result ≡ held_with chips g }
 {
     Generator {
@@ -61,10 +64,11 @@ fn hold(g: Generator, chips: u32) -> Generator
     }
 }
 
-// The step of a generator that is never held, given its register after a shift.
+// The step of a generator that is never held, given its register after a shift. Apart from the next: one function for both, with a match on the hold
+// outside, takes a tenth more time in a seek of P.
 fn step_running(g: Generator, shifted: u32, start: u32, last: u32, highest: u32) -> Generator
-    requires phase_le_last { g.phase ≤ last }
-    requires cycles_le_highest { g.cycles ≤ highest }
+    requires phase_in { g.phase ≤ last }
+    requires cycles_in { g.cycles ≤ highest }
     ensures { result ≡ step_in Running shifted start last highest Running g }
 {
     if g.phase == last {
@@ -83,12 +87,11 @@ fn step_held(
     highest: u32,
     arrival: Mode,
 ) -> Generator
-    requires phase_le_last { g.phase ≤ last }
-    requires cycles_le_highest { g.cycles ≤ highest }
+    requires phase_in { g.phase ≤ last }
+    requires cycles_in { g.cycles ≤ highest }
     ensures { result ≡ step_in g.mode shifted start last highest arrival g }
 {
-    let mode = g.mode;
-    match mode {
+    match g.mode {
         Mode::Running => {
             if g.phase == last {
                 restart(g, start, highest)
@@ -100,38 +103,143 @@ fn step_held(
             if h == 0 {
                 fresh_generator(start, 0)
             } else {
-                hold(g, h - 1)
+                held_with(g, h - 1)
             }
+        }
+    }
+}
+
+// ---- holds
+
+// Where a generator is held, and for how many chips: at a phase of a cycle, or at that phase of any cycle where the week ends, if it is held there.
+#[derive(Clone, Copy, Debug, PartialEq, Eq)]
+pub struct Hold {
+    pub phase: u32,
+    pub cycles: u32,
+    pub chips: u32,
+    pub week_end_chips: Option<u32>,
+}
+
+impl Hold {
+    // The mode on arrival at a phase in a cycle, but at the week's end.
+    fn usual(self, phase: u32, cycles: u32) -> Mode
+        ensures { result ≡ held_at self.phase self.cycles self.chips phase cycles }
+    {
+        if (phase == self.phase) & (cycles == self.cycles) {
+            Mode::Held(self.chips)
+        } else {
+            Mode::Running
+        }
+    }
+
+    // The same, where the test says whether the week ends.
+    fn arrival(self, week_end: bool, phase: u32, cycles: u32) -> Mode
+        ensures { result ≡ arrival_of self week_end phase cycles }
+    {
+        match self.week_end_chips {
+            None => self.usual(phase, cycles),
+            Some(chips) => {
+                if week_end {
+                    if phase == self.phase {
+                        Mode::Held(chips)
+                    } else {
+                        Mode::Running
+                    }
+                } else {
+                    self.usual(phase, cycles)
+                }
+            }
+        }
+    }
+}
+
+// ---- a generator's constants
+
+// But for its start, which the PRN may decide.
+pub trait Code {
+    // Its register.
+    type Stages: Leaping;
+
+    // Its kind, whatever start stands in it.
+    ghost kind: { Kind };
+
+    // The last phase of a cycle, by the cycles finished.
+    fn last(cycles: u32) -> u32
+        ensures last_is { result ≡ kind.last cycles }
+        ensures last_in { result < 2 ^ 20 };
+
+    // The highest number of cycles finished.
+    fn highest() -> u32
+        ensures { result ≡ kind.highest };
+
+    fn hold() -> Option<Hold>
+        ensures { MatchOption result (NeverHeld kind) (λ hold. HeldBy kind hold) };
+
+    ghost width_is: { kind.width ≡ Self.Stages.width };
+
+    ghost shift_is: { kind.shift ≡ Self.Stages.shift };
+}
+
+// The step of a generator, which begins a cycle from `start`.
+pub fn step<C: Code>(g: Generator, start: u32, week_end: bool) -> Generator
+    requires { RangedKind (record C.kind { start = start }) g }
+    ensures { result ≡ step_generator (record C.kind { start = start }) week_end g }
+{
+    let shifted = C::Stages::shift(g.register);
+    let last = C::last(g.cycles);
+    match C::hold() {
+        None => step_running(g, shifted, start, last, C::highest()),
+        Some(hold) => {
+            let arrival = hold.arrival(week_end, g.phase + 1, g.cycles);
+            step_held(g, shifted, start, last, C::highest(), arrival)
         }
     }
 }
 
 // ---- C/A
 
-pub fn step_g1(g: Generator) -> Generator
-    requires { RangedKind g1 g }
-    ensures { result ≡ step_generator g1 false g }
-{
-    step_running(
-        g,
-        registers::shift_g1(g.register),
-        starts::start_g1(),
-        machine::LAST_G,
-        0,
-    )
+impl Code for G1 {
+    type Stages = G1;
+
+    ghost kind = { g1 };
+
+    ghost width_is = { refl };
+
+    ghost shift_is = { refl };
+
+    fn last(_cycles: u32) -> u32 {
+        machine::LAST_G
+    }
+
+    fn highest() -> u32 {
+        0
+    }
+
+    fn hold() -> Option<Hold> {
+        None
+    }
 }
 
-pub fn step_g2(g: Generator) -> Generator
-    requires { RangedKind g2 g }
-    ensures { result ≡ step_generator g2 false g }
-{
-    step_running(
-        g,
-        registers::shift_g2(g.register),
-        starts::start_g2(),
-        machine::LAST_G,
-        0,
-    )
+impl Code for G2 {
+    type Stages = G2;
+
+    ghost kind = { g2 };
+
+    ghost width_is = { refl };
+
+    ghost shift_is = { refl };
+
+    fn last(_cycles: u32) -> u32 {
+        machine::LAST_G
+    }
+
+    fn highest() -> u32 {
+        0
+    }
+
+    fn hold() -> Option<Hold> {
+        None
+    }
 }
 
 // ---- P
@@ -147,188 +255,216 @@ const WEEK_END_HOLD_X2A: u32 = 1_069;
 
 const WEEK_END_HOLD_X2B: u32 = 965;
 
-// The mode on arrival at a phase in a cycle, held with n at one of them.
-fn held_at(at_phase: u32, at_cycles: u32, n: u32, phase: u32, cycles: u32) -> Mode
-    ensures { result ≡ held_at at_phase at_cycles n phase cycles }
-{
-    if (phase == at_phase) & (cycles == at_cycles) {
-        Mode::Held(n)
-    } else {
-        Mode::Running
+impl Code for X1A {
+    type Stages = X1A;
+
+    ghost kind = { x1a };
+
+    ghost width_is = { refl };
+
+    ghost shift_is = { refl };
+
+    fn last(_cycles: u32) -> u32 {
+        machine::LAST_X1A
+    }
+
+    fn highest() -> u32 {
+        machine::HIGHEST_X1A
+    }
+
+    fn hold() -> Option<Hold> {
+        None
     }
 }
 
-// The same, but held with m at that phase of any cycle where the week ends.
-fn held_at_end(
-    at_phase: u32,
-    at_cycles: u32,
-    n: u32,
-    m: u32,
-    week_end: bool,
-    phase: u32,
-    cycles: u32,
-) -> Mode
-    ensures { result ≡ held_at_end at_phase at_cycles n m week_end phase cycles }
-{
-    if week_end {
-        if phase == at_phase {
-            Mode::Held(m)
-        } else {
-            Mode::Running
-        }
-    } else {
-        held_at(at_phase, at_cycles, n, phase, cycles)
+impl Code for X1B {
+    type Stages = X1B;
+
+    ghost kind = { x1b };
+
+    ghost width_is = { refl };
+
+    ghost shift_is = { refl };
+
+    fn last(_cycles: u32) -> u32 {
+        machine::LAST_X1B
+    }
+
+    fn highest() -> u32 {
+        machine::HIGHEST_X1B
+    }
+
+    fn hold() -> Option<Hold> {
+        Some(Hold {
+            phase: machine::LAST_X1B,
+            cycles: machine::HIGHEST_X1B,
+            chips: HOLD_X1B,
+            week_end_chips: None,
+        })
     }
 }
 
-pub fn step_x1a(g: Generator) -> Generator
-    requires { RangedKind x1a g }
-    ensures { result ≡ step_generator x1a false g }
-{
-    let shifted = registers::shift_x1a(g.register);
-    step_running(
-        g,
-        shifted,
-        starts::start_x1a(),
-        machine::LAST_X1A,
-        machine::HIGHEST_X1A,
-    )
+impl Code for X2A {
+    type Stages = X2A;
+
+    ghost kind = { x2a };
+
+    ghost width_is = { refl };
+
+    ghost shift_is = { refl };
+
+    fn last(_cycles: u32) -> u32 {
+        machine::LAST_X2A
+    }
+
+    fn highest() -> u32 {
+        machine::HIGHEST_X2A
+    }
+
+    fn hold() -> Option<Hold> {
+        Some(Hold {
+            phase: machine::LAST_X2A,
+            cycles: machine::HIGHEST_X2A,
+            chips: HOLD_X2A,
+            week_end_chips: Some(WEEK_END_HOLD_X2A),
+        })
+    }
 }
 
-pub fn step_x1b(g: Generator) -> Generator
-    requires { RangedKind x1b g }
-    ensures { result ≡ step_generator x1b false g }
-{
-    let shifted = registers::shift_x1b(g.register);
-    let arrival = held_at(
-        machine::LAST_X1B,
-        machine::HIGHEST_X1B,
-        HOLD_X1B,
-        g.phase + 1,
-        g.cycles,
-    );
-    step_held(
-        g,
-        shifted,
-        starts::start_x1b(),
-        machine::LAST_X1B,
-        machine::HIGHEST_X1B,
-        arrival,
-    )
+impl Code for X2B {
+    type Stages = X2B;
+
+    ghost kind = { x2b };
+
+    ghost width_is = { refl };
+
+    ghost shift_is = { refl };
+
+    fn last(_cycles: u32) -> u32 {
+        machine::LAST_X2B
+    }
+
+    fn highest() -> u32 {
+        machine::HIGHEST_X2B
+    }
+
+    fn hold() -> Option<Hold> {
+        Some(Hold {
+            phase: machine::LAST_X2B,
+            cycles: machine::HIGHEST_X2B,
+            chips: HOLD_X2B,
+            week_end_chips: Some(WEEK_END_HOLD_X2B),
+        })
+    }
 }
 
-pub fn step_x2a(g: Generator, week_end: bool) -> Generator
-    requires { RangedKind x2a g }
-    ensures { result ≡ step_generator x2a week_end g }
-{
-    let shifted = registers::shift_x2a(g.register);
-    let phase = g.phase + 1;
-    let arrival = held_at_end(
-        machine::LAST_X2A,
-        machine::HIGHEST_X2A,
-        HOLD_X2A,
-        WEEK_END_HOLD_X2A,
-        week_end,
-        phase,
-        g.cycles,
-    );
-    step_held(
-        g,
-        shifted,
-        starts::start_x2a(),
-        machine::LAST_X2A,
-        machine::HIGHEST_X2A,
-        arrival,
-    )
+// ---- L2 CM and L2 CL
+
+pub struct Cm;
+
+impl Code for Cm {
+    type Stages = L2;
+
+    ghost kind = { cm 0 };
+
+    ghost width_is = { refl };
+
+    ghost shift_is = { refl };
+
+    fn last(_cycles: u32) -> u32 {
+        machine::LAST_CM
+    }
+
+    fn highest() -> u32 {
+        0
+    }
+
+    fn hold() -> Option<Hold> {
+        None
+    }
 }
 
-pub fn step_x2b(g: Generator, week_end: bool) -> Generator
-    requires { RangedKind x2b g }
-    ensures { result ≡ step_generator x2b week_end g }
-{
-    let shifted = registers::shift_x2b(g.register);
-    let phase = g.phase + 1;
-    let arrival = held_at_end(
-        machine::LAST_X2B,
-        machine::HIGHEST_X2B,
-        HOLD_X2B,
-        WEEK_END_HOLD_X2B,
-        week_end,
-        phase,
-        g.cycles,
-    );
-    step_held(
-        g,
-        shifted,
-        starts::start_x2b(),
-        machine::LAST_X2B,
-        machine::HIGHEST_X2B,
-        arrival,
-    )
+pub struct Cl;
+
+impl Code for Cl {
+    type Stages = L2;
+
+    ghost kind = { cl 0 };
+
+    ghost width_is = { refl };
+
+    ghost shift_is = { refl };
+
+    fn last(_cycles: u32) -> u32 {
+        machine::LAST_CL
+    }
+
+    fn highest() -> u32 {
+        0
+    }
+
+    fn hold() -> Option<Hold> {
+        None
+    }
 }
 
-// ---- L2 CM and L2 CL, from their starts
+// ---- I5 and Q5, of whose cycles the second is cut short
 
-pub fn step_cm(g: Generator, start: u32) -> Generator
-    requires { RangedKind (cm start) g }
-    ensures { result ≡ step_generator (cm start) false g }
-{
-    step_running(
-        g,
-        registers::shift_l2(g.register),
-        start,
-        machine::LAST_CM,
-        0,
-    )
+impl Code for XA {
+    type Stages = XA;
+
+    ghost kind = { xa };
+
+    ghost width_is = { refl };
+
+    ghost shift_is = { refl };
+
+    fn last(cycles: u32) -> u32 {
+        if cycles == 1 { 2_039 } else { 8_189 }
+    }
+
+    fn highest() -> u32 {
+        machine::HIGHEST_XA
+    }
+
+    fn hold() -> Option<Hold> {
+        None
+    }
 }
 
-pub fn step_cl(g: Generator, start: u32) -> Generator
-    requires { RangedKind (cl start) g }
-    ensures { result ≡ step_generator (cl start) false g }
-{
-    step_running(
-        g,
-        registers::shift_l2(g.register),
-        start,
-        machine::LAST_CL,
-        0,
-    )
+impl Code for XB {
+    type Stages = XB;
+
+    ghost kind = { xb 0 };
+
+    ghost width_is = { refl };
+
+    ghost shift_is = { refl };
+
+    fn last(cycles: u32) -> u32 {
+        if cycles == 1 { 2_038 } else { 8_190 }
+    }
+
+    fn highest() -> u32 {
+        machine::HIGHEST_XB
+    }
+
+    fn hold() -> Option<Hold> {
+        None
+    }
 }
 
-// ---- I5 and Q5, XB from its start
-
-// The last phase of XA's cycle, of which the second is cut short.
+// The last phase of XA's cycle: `XA::last` by a name, for a range test and a window that know no trait. Apart from the next: the name of the register is
+// all that they say.
 pub fn last_xa(cycles: u32) -> u32
     ensures { result ≡ xa.last cycles }
 {
-    if cycles == 1 { 2_039 } else { 8_189 }
+    XA::last(cycles)
 }
 
 // The same of XB, whatever its start.
 pub fn last_xb(cycles: u32) -> u32
     ensures { result ≡ (xb 0).last cycles }
 {
-    if cycles == 1 { 2_038 } else { 8_190 }
-}
-
-pub fn step_xa(g: Generator) -> Generator
-    requires { RangedKind xa g }
-    ensures { result ≡ step_generator xa false g }
-{
-    let shifted = registers::shift_xa(g.register);
-    step_running(
-        g,
-        shifted,
-        starts::start_xa(),
-        last_xa(g.cycles),
-        machine::HIGHEST_XA,
-    )
-}
-
-pub fn step_xb(g: Generator, start: u32) -> Generator
-    requires { RangedKind (xb start) g }
-    ensures { result ≡ step_generator (xb start) false g }
-{
-    let shifted = registers::shift_xb(g.register);
-    step_running(g, shifted, start, last_xb(g.cycles), machine::HIGHEST_XB)
+    XB::last(cycles)
 }

@@ -2,22 +2,19 @@
 #![tactic(auto)]
 
 ghost use Rattle.std.specs.Prelude.{◌≡◌, ◌<◌, ◌≤◌, ◌^◌};
-ghost use Rattle.machine.specs.Signals.{week_ca, week_p, week_l2, week_l5};
-ghost use Rattle.machine.specs.Signals.{g1, g2, x1a, x1b, x2a, x2b, cm, cl, xa, xb};
 ghost use Rattle.week.specs.Standing.{on, in_period, standing_at};
-ghost use Rattle.week.specs.Week.{course_g, course_x1a, course_x1b, course_x2a, course_x2b, course_cm, course_cl, course_xa, course_xb};
 ghost use Rattle.generators_at.specs.Inner.{Fits, placed_as, brought, Asked};
 
 use leaps::Leapt;
 use machine::{Generator, Mode};
-use week::{Course, Standing};
+use week::{Course, Coursed, Standing};
 
 // ---- where a generator stands
 
 // n chips after its start, in a mode.
 fn on_cycle(cycle: u64, n: u64, mode: Mode) -> Standing
-    requires cycle_nonzero { 0 < cycle }
-    requires n_bound { n < 2 ^ 32 }
+    requires cycle_some { 0 < cycle }
+    requires n_in { n < 2 ^ 32 }
     ensures { result ≡ on cycle n mode }
 {
     Standing {
@@ -28,11 +25,12 @@ fn on_cycle(cycle: u64, n: u64, mode: Mode) -> Standing
 }
 
 // n chips after its start, within a period.
+#[tactic(auto, unfolding(week::specs::Standing::in_period))]
 fn in_period(c: Course, n: u64) -> Standing
-    requires cycle_nonzero { 0 < c.cycle }
-    requires n_lt_period { n < c.period }
-    requires period_bound { c.period < 2 ^ 32 }
-    requires runs_le_period { c.runs ≤ c.period }
+    requires cycle_some { 0 < c.cycle }
+    requires n_in { n < c.period }
+    requires period_in { c.period < 2 ^ 32 }
+    requires runs_in { c.runs ≤ c.period }
     ensures { result ≡ in_period c.cycle c.runs c.period n }
 {
     if n < c.runs {
@@ -43,6 +41,7 @@ fn in_period(c: Course, n: u64) -> Standing
 }
 
 // At a place of the week.
+#[tactic(auto, unfolding(week::specs::Standing::standing_at))]
 fn standing(c: Course, place: u64) -> Standing
     requires { Fits c place }
     ensures { result ≡ standing_at c place }
@@ -57,7 +56,7 @@ fn standing(c: Course, place: u64) -> Standing
 // ---- a generator at a place
 
 // A generator, and how many leaps were made to bring it, and those before it, where they are.
-#[derive(Clone, Copy)]
+#[derive(Clone, Copy, Debug, PartialEq, Eq)]
 pub struct Brought {
     pub generator: Generator,
     pub count: u32,
@@ -67,12 +66,11 @@ pub struct Brought {
 fn placed(at: Standing, leapt: Leapt) -> Brought
     ensures { result ≡ placed_as at leapt }
 {
-    let mode = at.mode;
     let generator = Generator {
         register: leapt.register,
         phase: at.phase,
         cycles: at.cycles,
-        mode,
+        mode: at.mode,
     };
     Brought {
         generator,
@@ -80,128 +78,16 @@ fn placed(at: Standing, leapt: Leapt) -> Brought
     }
 }
 
-// Each generator at a place, from its start: its table of leaps is named in one call, and so at most once in a seek. A start that depends on the PRN is
-// handed in.
-
-pub fn seek_g1(place: u64, count: u32) -> Brought
-    requires { Asked week_ca place count }
-    ensures { result ≡ brought g1 course_g place count }
+// A generator at a place, brought there from its start, which may depend on the PRN.
+pub fn seek<C: Coursed>(start: u32, place: u64, count: u32) -> Brought
+    requires start_in { start < 2 ^ C.kind.width }
+    requires asked { Asked C.course.week place count }
+    ensures { result ≡ brought (record C.kind { start = start }) C.course place count }
 {
-    let at = standing(week::course_g(), place);
-    let from = Leapt {
-        register: starts::start_g1(),
-        count,
-    };
-    placed(at, leap_tables::leap_g1(from, at.phase))
-}
-
-pub fn seek_g2(place: u64, count: u32) -> Brought
-    requires { Asked week_ca place count }
-    ensures { result ≡ brought g2 course_g place count }
-{
-    let at = standing(week::course_g(), place);
-    let from = Leapt {
-        register: starts::start_g2(),
-        count,
-    };
-    placed(at, leap_tables::leap_g2(from, at.phase))
-}
-
-pub fn seek_x1a(place: u64, count: u32) -> Brought
-    requires { Asked week_p place count }
-    ensures { result ≡ brought x1a course_x1a place count }
-{
-    let at = standing(week::course_x1a(), place);
-    let from = Leapt {
-        register: starts::start_x1a(),
-        count,
-    };
-    placed(at, leap_tables::leap_x1a(from, at.phase))
-}
-
-pub fn seek_x1b(place: u64, count: u32) -> Brought
-    requires { Asked week_p place count }
-    ensures { result ≡ brought x1b course_x1b place count }
-{
-    let at = standing(week::course_x1b(), place);
-    let from = Leapt {
-        register: starts::start_x1b(),
-        count,
-    };
-    placed(at, leap_tables::leap_x1b(from, at.phase))
-}
-
-pub fn seek_x2a(place: u64, count: u32) -> Brought
-    requires { Asked week_p place count }
-    ensures { result ≡ brought x2a course_x2a place count }
-{
-    let at = standing(week::course_x2a(), place);
-    let from = Leapt {
-        register: starts::start_x2a(),
-        count,
-    };
-    placed(at, leap_tables::leap_x2a(from, at.phase))
-}
-
-pub fn seek_x2b(place: u64, count: u32) -> Brought
-    requires { Asked week_p place count }
-    ensures { result ≡ brought x2b course_x2b place count }
-{
-    let at = standing(week::course_x2b(), place);
-    let from = Leapt {
-        register: starts::start_x2b(),
-        count,
-    };
-    placed(at, leap_tables::leap_x2b(from, at.phase))
-}
-
-pub fn seek_cm(start: u32, place: u64, count: u32) -> Brought
-    requires start_bound { start < 2 ^ 27 }
-    requires asked { Asked week_l2 place count }
-    ensures { result ≡ brought (cm start) course_cm place count }
-{
-    let at = standing(week::course_cm(), place);
+    let at = standing(C::course(), place);
     let from = Leapt {
         register: start,
         count,
     };
-    placed(at, leap_tables::leap_l2(from, at.phase))
-}
-
-pub fn seek_cl(start: u32, place: u64, count: u32) -> Brought
-    requires start_bound { start < 2 ^ 27 }
-    requires asked { Asked week_l2 place count }
-    ensures { result ≡ brought (cl start) course_cl place count }
-{
-    let at = standing(week::course_cl(), place);
-    let from = Leapt {
-        register: start,
-        count,
-    };
-    placed(at, leap_tables::leap_l2(from, at.phase))
-}
-
-pub fn seek_xa(place: u64, count: u32) -> Brought
-    requires { Asked week_l5 place count }
-    ensures { result ≡ brought xa course_xa place count }
-{
-    let at = standing(week::course_xa(), place);
-    let from = Leapt {
-        register: starts::start_xa(),
-        count,
-    };
-    placed(at, leap_tables::leap_xa(from, at.phase))
-}
-
-pub fn seek_xb(start: u32, place: u64, count: u32) -> Brought
-    requires start_bound { start < 2 ^ 13 }
-    requires asked { Asked week_l5 place count }
-    ensures { result ≡ brought (xb start) course_xb place count }
-{
-    let at = standing(week::course_xb(), place);
-    let from = Leapt {
-        register: start,
-        count,
-    };
-    placed(at, leap_tables::leap_xb(from, at.phase))
+    placed(at, leap_tables::leap::<C::Stages>(from, at.phase))
 }

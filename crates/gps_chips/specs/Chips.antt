@@ -1,10 +1,17 @@
 -- What Chips answers, and what its buffer has after the call, for every input: document 01, "Chips".
 -- Assumes nothing.
-use Rattle.std.specs.Prelude.{ℕ, cond, List, map, ltb, leb, eqb, length}
+use Rattle.std.specs.Prelude.{ℕ, cond, List, map, ltb, leb, eqb, length, Result, Ok, Err}
 use Rattle.machine.specs.Signals.{week_of, places_from}
 use Rattle.machine.specs.Machine.{opened, advance, chips, is_signal, is_prn}
+use Rattle.refusals.specs.Refusal.{number_of}
+use Rattle.refusals.specs.declared.Refusal.{Refusal}
 use Rattle.standard.specs.Standard.{standard}
 use Rattle.call_window.specs.Window.{most_chips}
+
+-- what each case of the answer says: "It answers 0 or the refusal."
+abbrev pub of_chips : Result Unit Refusal → ℕ
+of_chips (Ok done) = 0
+of_chips (Err r) = number_of r
 
 -- for a buffer of n bytes: "1, 2, 3, then 5 for its length. It answers 0 or the refusal."
 unfoldable pub chips_answer : ℕ → ℕ → ℕ → ℕ → ℕ

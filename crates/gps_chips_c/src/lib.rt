@@ -12,5 +12,8 @@ pub extern "C" fn gps_chips(signal: u64, prn: u64, place: u64, buffer: &mut [u8]
     ensures chips_by_the_machine { buffer.new ≡ chips_buffer by_the_machine signal prn place buffer.old }
     ensures chips_by_the_standards { buffer.new ≡ chips_buffer by_the_standards signal prn place buffer.old }
 {
-    gps_chips::gps_chips(signal, prn, place, buffer)
+    match gps_chips::gps_chips(signal, prn, place, buffer) {
+        Ok(()) => 0,
+        Err(refusal) => refusal.number(),
+    }
 }

@@ -1,256 +1,121 @@
-// The layout of the tables and of the known places: which rows, which columns, and what stands in each cell. No call of the engine. Rows and columns count from 1.
+// The layout of the tables and of the known places: what is seen of a channel, and of which PRNs or at which places a table has its rows. No call of the engine.
 #![tactic(auto)]
 
-ghost use Rattle.std.specs.Prelude.{◌≤◌};
+ghost use Rattle.std.specs.Prelude.{◌≡◌, ◌+◌, ◌*◌, ◌%◌, ◌≤◌, Some};
+ghost use Rattle.layout.specs.Coder.{name_of};
 
-use machine::{LAST_CL, LAST_CM, WEEK_P};
-use pages::values::{Value, Word};
-use pages::{CA, CL, CM, I5, P, Q5};
+use machine::WEEK_P;
+use std::fmt;
 
-pub mod known;
+// ---- what is seen of a channel
 
-// Generators by number. L2 CM's is 1 and L2 CL's is 2.
-pub const X1A: u64 = 1;
+// A code generator, by the name that the standards give it.
+#[derive(Clone, Copy, Debug, PartialEq, Eq)]
+pub enum Coder {
+    X1a,
+    X1b,
+    X2a,
+    X2b,
+    L2Cm,
+    L2Cl,
+    Xa,
+}
 
-pub const X1B: u64 = 2;
+impl fmt::Display for Coder {
+    ghost output = { λ coder. Some (name_of coder) };
 
-pub const X2A: u64 = 3;
+    fn fmt<W: fmt::Write>(&self, f: &mut fmt::Formatter<W>) -> fmt::Result {
+        f.pad(match self {
+            Coder::X1a => "X1A",
+            Coder::X1b => "X1B",
+            Coder::X2a => "X2A",
+            Coder::X2b => "X2B",
+            Coder::L2Cm => "L2 CM",
+            Coder::L2Cl => "L2 CL",
+            Coder::Xa => "XA",
+        })
+    }
+}
 
-pub const X2B: u64 = 4;
-
-pub const XA: u64 = 1;
-
-// ---- cells
-
-// What is seen of a channel.
-#[derive(Clone, Copy)]
+#[derive(Clone, Copy, Debug, PartialEq, Eq)]
 pub enum Field {
     // The leaps that seek told.
     Leaps,
     Epoch,
-    // Of a generator.
-    Register(u64),
+    Register(Coder),
     // The number of the chip in its cycle. It counts from 1, where a phase counts from 0.
-    Chip(u64),
-    Phase(u64),
-    Cycles(u64),
-    Hold(u64),
-}
-
-#[derive(Clone, Copy)]
-pub enum Cell {
-    // As it stands.
-    Shown(Value),
-    // A field of a signal and a PRN, as open gives it.
-    Opened(u64, u64, Field),
-    // The same where seek brings it, the place before the field.
-    At(u64, u64, u64, Field),
-    // What P's step from a place gives.
-    Step(u64),
-    // Between two places of C/A.
-    Gap(u64, u64),
-    // The first chips of a signal and a PRN, and the start of XB that is read off them.
-    First(u64, u64),
-    Xb(u64, u64),
-    // 256 and 1,024 chips of P, of a PRN from a place on.
-    First256(u64, u64),
-    Last1024(u64, u64),
-}
-
-// ---- tables
-
-#[derive(Clone, Copy)]
-pub enum Table {
-    // IS-GPS-200 3-Ia, 3-IIa, 3-VI, 3-VII, 6-III, 6-IV
-    CodePhases,
-    L2States,
-    ResetTiming,
-    FinalVectors,
-    FirstChips,
-    LastChips,
-    // IS-GPS-705 3-I
-    XbStates,
-}
-
-// ---- tables with a row for each PRN from 1 to 37
-
-// Table 3-Ia: the first ten chips of C/A, and the first twelve of P.
-fn code_phase(prn: u64, column: u64) -> Cell {
-    match column {
-        1 => Cell::Shown(Value::Right(prn, 3, b' ')),
-        2 => Cell::First(CA, prn),
-        _ => Cell::First(P, prn),
-    }
-}
-
-// Table 3-IIa: the states of L2 CM and L2 CL as a channel is opened, and at the last chip of their first periods.
-fn l2_state(prn: u64, column: u64) -> Cell {
-    match column {
-        1 => Cell::Shown(Value::Right(prn, 3, b' ')),
-        2 => Cell::Opened(CM, prn, Field::Register(1)),
-        3 => Cell::Opened(CL, prn, Field::Register(2)),
-        4 => Cell::At(CM, prn, LAST_CM as u64, Field::Register(1)),
-        _ => Cell::At(CL, prn, LAST_CL as u64, Field::Register(2)),
-    }
-}
-
-// Table 3-I of IS-GPS-705.
-fn xb_state(prn: u64, column: u64) -> Cell {
-    match column {
-        1 => Cell::Shown(Value::Right(prn, 3, b' ')),
-        2 => Cell::Xb(I5, prn),
-        _ => Cell::Xb(Q5, prn),
-    }
-}
-
-// ---- Table 3-VI
-
-// Where X1A's last cycle of the week begins.
-const LAST_CYCLE: u64 = 6_187_103_995_908;
-
-// X1A's phase in a row of the table, one less than its chip.
-fn x1a_phase(row: u64) -> u64
-    ensures { result ≤ 4091 }
-{
-    match row {
-        1 => 0,
-        2 => 3_022,
-        3 => 3_126,
-        4 => 3_748,
-        _ => 4_091,
-    }
-}
-
-// A column to a generator.
-fn reset_timing(row: u64, column: u64) -> Cell {
-    Cell::At(P, 1, LAST_CYCLE + x1a_phase(row), Field::Chip(column))
-}
-
-// ---- Table 3-VII
-
-// A generator in its first cycle, and where its next cycle begins.
-#[derive(Clone, Copy)]
-struct CycleEnd {
-    generator: u64,
-    place: u64,
-    next: u64,
-}
-
-fn cycle_end(generator: u64, place: u64, next: u64) -> CycleEnd {
-    CycleEnd {
-        generator,
-        place,
-        next,
-    }
-}
-
-// The last two chips of a cycle of each generator.
-fn final_cycle(row: u64) -> CycleEnd {
-    match row {
-        1 => cycle_end(X1A, 4_090, 4_092),
-        2 => cycle_end(X1A, 4_091, 4_092),
-        3 => cycle_end(X1B, 4_091, 4_093),
-        4 => cycle_end(X1B, 4_092, 4_093),
-        5 => cycle_end(X2A, 4_090, 4_092),
-        6 => cycle_end(X2A, 4_091, 4_092),
-        7 => cycle_end(X2B, 4_091, 4_093),
-        _ => cycle_end(X2B, 4_092, 4_093),
-    }
-}
-
-fn final_vector(row: u64, column: u64) -> Cell {
-    let of = final_cycle(row);
-    match column {
-        1 => Cell::Shown(Value::Word(Word::Generator(of.generator))),
-        2 => Cell::At(P, 1, of.place, Field::Chip(of.generator)),
-        3 => Cell::At(P, 1, of.place, Field::Register(of.generator)),
-        _ => Cell::At(P, 1, of.next, Field::Register(of.generator)),
-    }
-}
-
-// ---- Tables 6-III and 6-IV
-
-// The PRN of a row of the two tables.
-fn selected(row: u64) -> u64
-    ensures { (1 ≤ result) × (result ≤ 210) }
-{
-    match row {
-        1 => 1,
-        2 => 2,
-        3 => 37,
-        4 => 38,
-        5 => 74,
-        6 => 75,
-        7 => 111,
-        8 => 112,
-        9 => 148,
-        10 => 149,
-        11 => 185,
-        12 => 186,
-        _ => 210,
-    }
-}
-
-// Chips of a day.
-const DAY: u64 = 883_872_000_000;
-
-// Chips of P of a PRN, days on: the first 256 from there, or the last 1,024 before it. With no days these are the week's last.
-fn selected_chips(table: Table, prn: u64, days: u64) -> Cell
-    requires { days ≤ 5 }
-{
-    let place = days * DAY;
-    match table {
-        Table::FirstChips => Cell::First256(prn, place),
-        _ => {
-            if days == 0 {
-                return Cell::Last1024(prn, WEEK_P - 1_024);
-            }
-            Cell::Last1024(prn, place - 1_024)
-        }
-    }
-}
-
-// A PRN above 37 has the P-code of another, whole days on.
-fn selected_cell(table: Table, row: u64, column: u64) -> Cell {
-    let prn = selected(row);
-    let days = (prn - 1) / 37;
-    let of = prn - 37 * days;
-    match column {
-        1 => Cell::Shown(Value::Right(prn, 3, b'0')),
-        2 => Cell::Shown(Value::Advance(of, days * 24)),
-        _ => selected_chips(table, of, days),
-    }
+    Chip(Coder),
+    Phase(Coder),
+    Cycles(Coder),
+    Hold(Coder),
 }
 
 // ---- rows
 
-pub fn rows(table: Table) -> u64 {
-    match table {
-        Table::ResetTiming => 5,
-        Table::FinalVectors => 8,
-        Table::FirstChips => 13,
-        Table::LastChips => 13,
-        _ => 37,
-    }
+// Where X1A's last cycle of the week begins.
+const LAST_CYCLE: u64 = 6_187_103_995_908;
+
+// Table 3-VI: the places of its rows, which are X1A's chips 1, 3,023, 3,127, 3,749 and 4,092 of that cycle.
+pub const RESETS: [u64; 5] = [
+    LAST_CYCLE,
+    LAST_CYCLE + 3_022,
+    LAST_CYCLE + 3_126,
+    LAST_CYCLE + 3_748,
+    LAST_CYCLE + 4_091,
+];
+
+// Table 3-VII: the places of the last two chips of each generator's first cycle, and where its next cycle begins.
+pub const CYCLE_ENDS: [(Coder, u64, u64); 8] = [
+    (Coder::X1a, 4_090, 4_092),
+    (Coder::X1a, 4_091, 4_092),
+    (Coder::X1b, 4_091, 4_093),
+    (Coder::X1b, 4_092, 4_093),
+    (Coder::X2a, 4_090, 4_092),
+    (Coder::X2a, 4_091, 4_092),
+    (Coder::X2b, 4_091, 4_093),
+    (Coder::X2b, 4_092, 4_093),
+];
+
+// Tables 6-III and 6-IV: the PRNs of their rows.
+pub const SELECTED: [u8; 13] = [1, 2, 37, 38, 74, 75, 111, 112, 148, 149, 185, 186, 210];
+
+// Chips of P of a day.
+const DAY: u64 = 883_872_000_000;
+
+// Whose P-code a PRN has. One above 37 has that of another, whole days on.
+#[derive(Clone, Copy, Debug, PartialEq, Eq)]
+pub struct Selected {
+    pub prn: u64,
+    pub days: u64,
+    ghost within_a_week: { days ≤ 6 },
 }
 
-pub fn columns(table: Table) -> u64 {
-    match table {
-        Table::L2States => 5,
-        Table::ResetTiming => 4,
-        Table::FinalVectors => 4,
-        _ => 3,
+impl Selected {
+    // By its number, 1 to 210 in the tables: PRN 38 has the code of PRN 1 a day on. Any number is taken; 0 gives 0.
+    pub fn of(prn: u8) -> Selected
+        ensures whole_days { result.prn + 37 * result.days ≡ prn }
+        ensures one_of_37 { result.prn ≤ 37 }
+        ensures from_1 { 1 ≤ prn → 1 ≤ result.prn }
+    {
+        let number = u64::from(prn);
+        let days = number.saturating_sub(1) / 37;
+        Selected {
+            prn: number - 37 * days,
+            days,
+        }
     }
-}
 
-pub fn cell_of(table: Table, row: u64, column: u64) -> Cell {
-    match table {
-        Table::CodePhases => code_phase(row, column),
-        Table::L2States => l2_state(row, column),
-        Table::ResetTiming => reset_timing(row, column),
-        Table::FinalVectors => final_vector(row, column),
-        Table::FirstChips => selected_cell(table, row, column),
-        Table::LastChips => selected_cell(table, row, column),
-        Table::XbStates => xb_state(row, column),
+    // The place of that P-code where its own week begins.
+    pub fn first(self) -> u64
+        ensures { result ≡ self.days * 883872000000 }
+    {
+        self.days * DAY
+    }
+
+    // The place of the 1,024th chip before that one, round the week.
+    pub fn last_1024(self) -> u64
+        ensures { result ≡ (self.days * 883872000000 + 6187103998976) % 6187104000000 }
+    {
+        (self.first() + (WEEK_P - 1_024)) % WEEK_P
     }
 }

@@ -1,28 +1,33 @@
 // A line of the line program, and its reply. The four fields are cut first, and all else speaks of them.
 #![tactic(auto)]
 
-ghost use Rattle.std.specs.Prelude.{◌≡◌, cond, ◌≤◌, ◌<◌, ◌+◌, length};
-ghost use Rattle.replies.specs.Reply.{written};
-ghost use Rattle.texts.specs.Buffers.{Begins};
-ghost use Rattle.lines.specs.Lines.{are_numbers, is_count, echoed, answered_with, reply_to, fields_reply, line_reply};
-ghost use Rattle.lines.specs.Inner.{Fits};
+ghost use Rattle.std.specs.Prelude.{◌≡◌, true, false, ◌<◌, ◌≤◌, ◌+◌, ◌++◌, min, length, MatchResult};
+ghost use Rattle.arrayvec.specs.ArrayVec.{array_vec_len};
+ghost use Rattle.refusals.specs.Refusal.{number_of};
+ghost use Rattle.refusals.specs.declared.Refusal.TheVariants as refusals;
+ghost use Rattle.fields.specs.Fields.{is_number, value};
+ghost use Rattle.texts.specs.Texts.{refused_line};
+ghost use Rattle.lines.specs.Lines.{signal_field, prn_field, place_field, count_field, echoed, answered_with, line_refusal, line_reply};
+ghost use Rattle.gps_chips.specs.Chips.{by_the_machine};
+ghost use Rattle.lines.specs.Inner.{are_numbers_of, asked_of, answered_of, fields_reply_of, AreShort};
+
+use arrayvec::ArrayVec;
+use refusals::Refusal;
 
 // The most chips that a line may ask for.
-const MOST_COUNT: usize = 64;
+const MOST_COUNT: u64 = 64;
 
-// A number, leading zeros dropped, and a space, written from `at` on. Answers where it ended.
-fn put_number(field: &[u8], out: &mut [u8], at: usize) -> usize
-    requires { at + length field.now < length out.old }
-    ensures value { result ≡ at + length (echoed field.now) }
-    ensures out_after { out.new ≡ written at (echoed field.now) out.old }
-{
-    let end = texts::put(&field[fields::leading_zeros(field)..], out, at);
-    out[end] = b' ';
-    end + 1
+// The four fields of a line.
+#[derive(Clone, Copy, Debug, PartialEq, Eq)]
+struct Fields<'a> {
+    signal: &'a [u8],
+    prn: &'a [u8],
+    place: &'a [u8],
+    count: &'a [u8],
 }
 
 // What a line asks for.
-#[derive(Clone, Copy)]
+#[derive(Clone, Copy, Debug, PartialEq, Eq)]
 struct Asked {
     signal: u64,
     prn: u64,
@@ -30,98 +35,105 @@ struct Asked {
     count: u64,
 }
 
-fn are_numbers(signal: &[u8], prn: &[u8], place: &[u8], count: &[u8]) -> bool
-    ensures { result ≡ are_numbers signal.now prn.now place.now count.now }
+fn number(field: &[u8]) -> Result<u64, Refusal>
+    ensures { MatchResult result (λ n. (is_number field.now ≡ true) × (n ≡ value field.now) × (length field.now ≤ 13))
+        (λ e. (is_number field.now ≡ false) × (e ≡ refusals.Line)) }
 {
-    fields::is_number(signal)
-        & fields::is_number(prn)
-        & fields::is_number(place)
-        & fields::is_number(count)
+    fields::number(field).ok_or(Refusal::Line)
 }
 
-// The first three numbers and the chips, at the start of the buffer.
-fn answered(signal: &[u8], prn: &[u8], place: &[u8], chips: &[u8], out: &mut [u8]) -> usize
-    requires { Fits signal.now prn.now place.now chips.now out.old }
-    ensures { Begins (answered_with signal.now prn.now place.now chips.now) out.old out.new result }
-{
-    let first = put_number(signal, out, 0);
-    let second = put_number(prn, out, first);
-    let third = put_number(place, out, second);
-    let end = texts::put_chips(chips, out, third);
-    out[end] = b'\n';
-    end + 1
-}
+impl<'a> Fields<'a> {
+    // What stands before the first three spaces, and all that is left.
+    #[tactic(auto, unfolding(crate::specs::Lines::line_reply))]
+    fn of(line: &'a [u8]) -> Fields<'a>
+        ensures { fields_reply_of result ≡ line_reply line.now }
+    {
+        let (signal, rest) = fields::split(line);
+        let (prn, rest) = fields::split(rest);
+        let (place, count) = fields::split(rest);
+        Fields {
+            signal,
+            prn,
+            place,
+            count,
+        }
+    }
 
-// The count asked for, or 0 where it is above 64.
-fn chip_count(count: u64) -> usize
-    ensures value { result ≡ cond (is_count count) count 0 }
-    ensures upper_bound { result ≤ 64 }
-{
-    if count <= MOST_COUNT as u64 {
-        count as usize
-    } else {
-        0
+    // The four numbers.
+    fn asked(self) -> Result<Asked, Refusal>
+        ensures { MatchResult result (λ a. (are_numbers_of self.entry ≡ true) × AreShort self.entry × (a ≡ asked_of self.entry))
+            (λ e. (are_numbers_of self.entry ≡ false) × (e ≡ refusals.Line)) }
+    {
+        Ok(Asked {
+            signal: number(self.signal)?,
+            prn: number(self.prn)?,
+            place: number(self.place)?,
+            count: number(self.count)?,
+        })
     }
 }
 
-// The reply to four numbers, given as many bytes for the chips as are asked for, or none where so many may not be asked for.
-fn answer(
-    signal: &[u8],
-    prn: &[u8],
-    place: &[u8],
-    asked: Asked,
-    chips: &mut [u8],
-    out: &mut [u8],
-) -> usize
-    requires fits { Fits signal.now prn.now place.now chips.old out.old }
-    requires chips_len { length chips.old ≡ cond (is_count asked.count) asked.count 0 }
-    ensures { Begins (reply_to signal.now prn.now place.now asked.signal asked.prn asked.place asked.count) out.old out.new result }
-{
-    let refusal = gps_chips::gps_chips(asked.signal, asked.prn, asked.place, chips);
-    if 0 < refusal {
-        return texts::refused(refusal, out);
+impl Asked {
+    // Fills a buffer of as many bytes as are asked for, but of 64 at most, with the chips.
+    fn chips(self, buffer: &mut [u8]) -> Result<(), Refusal>
+        requires { length buffer.old ≡ min self.count 64 }
+        ensures { MatchResult result
+            (λ _. (line_refusal self.signal self.prn self.place self.count ≡ 0) × (buffer.new ≡ by_the_machine self.signal self.prn self.place self.count))
+            (λ e. line_refusal self.signal self.prn self.place self.count ≡ number_of e) }
+    {
+        gps_chips::gps_chips(self.signal, self.prn, self.place, buffer)?;
+        if self.count == 0 || MOST_COUNT < self.count {
+            return Err(Refusal::Count);
+        }
+        Ok(())
     }
-    if chips.len() == 0 {
-        return texts::refused(5, out);
-    }
-    answered(signal, prn, place, chips, out)
 }
 
-// The reply to four fields.
-fn reply_fields(signal: &[u8], prn: &[u8], place: &[u8], count: &[u8], out: &mut [u8]) -> usize
-    requires { 128 ≤ length out.old }
-    ensures { Begins (fields_reply signal.now prn.now place.now count.now) out.old out.new result }
+// A number, leading zeros dropped, and a space, behind what stands there.
+fn append_number<const N: usize>(field: &[u8], out: &mut ArrayVec<u8, N>)
+    requires room { array_vec_len out.old + length field.now < N }
+    ensures appended { out.new.items ≡ out.old.items ++ echoed field.now }
+    ensures short { array_vec_len out.new ≤ array_vec_len out.old + length field.now + 1 }
 {
-    if !are_numbers(signal, prn, place, count) {
-        return texts::refused(9, out);
-    }
-    let asked = Asked {
-        signal: fields::value_of(signal),
-        prn: fields::value_of(prn),
-        place: fields::value_of(place),
-        count: fields::value_of(count),
-    };
-    let mut chips = [0u8; MOST_COUNT];
-    answer(
-        signal,
-        prn,
-        place,
-        asked,
-        &mut chips[..chip_count(asked.count)],
-        out,
-    )
+    texts::append(fields::without_zeros(field), out);
+    out.push(b' ');
 }
 
-// The reply to a line.
-pub fn reply(line: &[u8], out: &mut [u8]) -> usize
-    requires { 128 ≤ length out.old }
-    ensures { Begins (line_reply line.now) out.old out.new result }
+// The first three numbers and the chips, behind what stands there.
+fn append_answer<const N: usize>(fields: Fields, chips: &[u8], out: &mut ArrayVec<u8, N>)
+    requires short { AreShort fields }
+    requires few_chips { length chips.now ≤ 64 }
+    requires room { array_vec_len out.old + 128 ≤ N }
+    ensures { out.new.items ≡ out.old.items ++ answered_of fields.entry chips.now }
 {
-    let second = &line[fields::past(line)..];
-    let third = &second[fields::past(second)..];
-    let fourth = &third[fields::past(third)..];
-    let signal = &line[..fields::cut(line)];
-    let prn = &second[..fields::cut(second)];
-    let place = &third[..fields::cut(third)];
-    reply_fields(signal, prn, place, fourth, out)
+    append_number(fields.signal, out);
+    append_number(fields.prn, out);
+    append_number(fields.place, out);
+    texts::append_chips(chips, out);
+    out.push(b'\n');
+}
+
+// The reply to four fields, behind what stands there, unless it is a refusal: then nothing is written.
+#[tactic(auto, unfolding(crate::specs::Lines::fields_reply), using(crate::proofs::LineReplies::reply_refused))]
+fn answer<const N: usize>(fields: Fields, out: &mut ArrayVec<u8, N>) -> Result<(), Refusal>
+    requires room { array_vec_len out.old + 128 ≤ N }
+    ensures { MatchResult result (λ _. out.new.items ≡ out.old.items ++ fields_reply_of fields.entry)
+        (λ e. (out.new ≡ out.old) × (fields_reply_of fields.entry ≡ refused_line (number_of e))) }
+{
+    let asked = fields.asked()?;
+    let mut buffer = [0u8; MOST_COUNT as usize];
+    let chips = &mut buffer[..asked.count.min(MOST_COUNT) as usize];
+    asked.chips(chips)?;
+    append_answer(fields, chips, out);
+    Ok(())
+}
+
+// The reply to a line, behind what stands there.
+pub fn reply<const N: usize>(line: &[u8], out: &mut ArrayVec<u8, N>)
+    requires room { array_vec_len out.old + 128 ≤ N }
+    ensures { out.new.items ≡ out.old.items ++ line_reply line.now }
+{
+    if let Err(refusal) = answer(Fields::of(line), out) {
+        texts::append_refused(refusal, out);
+    }
 }

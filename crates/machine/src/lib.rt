@@ -2,14 +2,14 @@
 #![tactic(auto)]
 
 // Running, or held with a number of chips still to repeat.
-#[derive(Clone, Copy)]
+#[derive(Clone, Copy, Debug, PartialEq, Eq)]
 pub enum Mode {
     Running,
     Held(u32),
 }
 
 // A code generator.
-#[derive(Clone, Copy)]
+#[derive(Clone, Copy, Debug, PartialEq, Eq)]
 pub struct Generator {
     // Stage k is binary digit k - 1.
     pub register: u32,
@@ -22,7 +22,7 @@ pub struct Generator {
 
 // A channel: a signal of a satellite at a place of the week. C/A has G1 and G2 as its generators, P has X1A, X1B, X2A and X2B, L2 CM has its
 // one as the first and L2 CL as the second, I5 and Q5 have XA and XB. What a signal lacks is 0 and running.
-#[derive(Clone, Copy)]
+#[derive(Clone, Copy, Debug, PartialEq, Eq)]
 pub struct Channel {
     // 1 C/A, 2 P, 3 L2 CM, 4 L2 CL, 5 I5, 6 Q5.
     pub signal: u32,

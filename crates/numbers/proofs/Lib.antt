@@ -1,3 +1,2 @@
 pub mod Numbers
 pub mod Bytes
-pub mod Writing

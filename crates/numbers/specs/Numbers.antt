@@ -1,15 +1,15 @@
 -- Numbers as words of text, and how such words are read. Bytes are those of ASCII: 48 to 57 are the digits. Behind each word stands a mark, which is no digit.
 -- Assumes nothing.
-use Rattle.std.specs.Prelude.{ℕ, zero, suc, ◌+◌, ◌-◌, ◌*◌, ◌/◌, ◌%◌, Bool, true, false, cond, ◌&&◌, List, [], ◌∷◌, ◌++◌, ltb, leb, eqb, drop}
+use Rattle.std.specs.Prelude.{ℕ, zero, suc, ◌+◌, ◌-◌, ◌*◌, ◌/◌, ◌%◌, ◌&&◌, List, [], ◌∷◌, ◌++◌, Option, Some, None, option_map, option_and_then, ◌==◌, nat_lt, nat_le, if◌then◌else◌}
+use Rattle.std.specs.Borrow.{Bor}
 use Rattle.fields.specs.Fields.{digit}
-use Rattle.numbers.specs.declared.NumberRead.{NumberRead}
 
 -- ---- written
 
 -- a number in base ten, in at most so many digits, the first of them not 0 where there are more
 abbrev pub digits_in : ℕ → ℕ → List ℕ
 digits_in zero n = []
-digits_in (suc k) n = cond (ltb n 10) ((48 + n) ∷ []) (digits_in k (n / 10) ++ ((48 + n % 10) ∷ []))
+digits_in (suc k) n = if nat_lt n 10 then (48 + n) ∷ [] else (digits_in k (n / 10) ++ ((48 + n % 10) ∷ []))
 
 -- every 64-bit number has at most 20 digits
 unfoldable pub number_word : ℕ → ℕ → List ℕ
@@ -25,41 +25,39 @@ most64 = 18446744073709551615
 
 -- ---- read
 
--- What is read at the front of a text: whether it stands there, what it is, and what stands behind its mark. Where it does not stand there, nothing is left
--- to read, so that what is read next does not stand there either.
-pub record Read (A : Type 0) : Type 0 where
-  pub there : Bool
-  pub value : A
-  pub rest : List ℕ
+-- What is read at the front of a text, and what stands behind its mark; `None` where it does not stand there.
+abbrev pub Read : Type 0 → Type 0
+Read A = Option (A × List ℕ)
 
-abbrev pub found : {A : Type 0} → A → List ℕ → Read A
-found value rest = record { there = true; value = value; rest = rest }
+-- what a function of the code has read: the rest of the text is lent
+abbrev pub of_read : {A : Type 0} → Option (A × Bor (List ℕ)) → Read A
+of_read r = option_map (λ p. (p.0, p.1.now)) r
 
-abbrev pub missing : {A : Type 0} → A → Read A
-missing value = record { there = false; value = value; rest = [] }
+-- what is read next is read behind it, and where it does not stand there, nothing is
+infixl 10 ◌>>=◌
+abbrev pub ◌>>=◌ : {A B : Type 0} → Option A → (A → Option B) → Option B
+r >>= next = option_and_then next r
 
--- The digits behind those of n, up to the mark. None may follow a leading 0, and the number may not pass the most that its field holds.
+-- A number with a digit more. None may follow a leading 0, and the number may not pass the most that its field holds.
+abbrev pub with_digit : ℕ → ℕ → ℕ → Option ℕ
+with_digit most n b = if digit b && nat_lt 0 n && nat_le (n * 10 + (b - 48)) most then Some (n * 10 + (b - 48)) else None
+
+-- the digits behind those of n, up to the mark
 abbrev pub digits_on : ℕ → ℕ → ℕ → List ℕ → Read ℕ
-digits_on most mark n [] = missing 0
-digits_on most mark n (b ∷ bs) =
-    cond (eqb b mark) (found n bs) (cond (digit b && ltb 0 n && leb (n * 10 + (b - 48)) most) (digits_on most mark (n * 10 + (b - 48)) bs) (missing 0))
+digits_on most mark n [] = None
+digits_on most mark n (b ∷ bs) = if b == mark then Some (n, bs) else (with_digit most n b >>= (λ longer. digits_on most mark longer bs))
 
 unfoldable pub read_number : ℕ → ℕ → List ℕ → Read ℕ
-read_number most mark [] = missing 0
-read_number most mark (b ∷ bs) = cond (digit b) (digits_on most mark (b - 48) bs) (missing 0)
+read_number most mark [] = None
+read_number most mark (b ∷ bs) = if digit b then digits_on most mark (b - 48) bs else None
 
 -- up to k zeros dropped, each before a digit
 abbrev pub unpadded : ℕ → List ℕ → List ℕ
 unpadded zero text = text
 unpadded (suc k) [] = []
 unpadded (suc k) (b ∷ []) = b ∷ []
-unpadded (suc k) (b ∷ c ∷ bs) = cond (eqb b 48 && digit c) (unpadded k (c ∷ bs)) (b ∷ c ∷ bs)
+unpadded (suc k) (b ∷ c ∷ bs) = if (b == 48) && digit c then unpadded k (c ∷ bs) else b ∷ c ∷ bs
 
 -- A number of 64 bits as an argument of a command: it may have up to 19 leading zeros, which a channel's fields may not.
 unfoldable pub read_argument : ℕ → List ℕ → Read ℕ
 read_argument mark text = read_number most64 mark (unpadded 19 text)
-
--- ---- what the answer of the code says, given the whole text
-
-abbrev pub of_number : List ℕ → NumberRead → Read ℕ
-of_number text r = record { there = r.there; value = r.value; rest = drop r.end text }

@@ -1,131 +1,90 @@
 // Numbers as words of text: written, and read back. Behind a word stands a mark.
 #![tactic(auto)]
 
-ghost use Rattle.std.specs.Prelude.{◌≡◌, ◌&&◌, ◌≤◌, ◌+◌, ◌-◌, ◌*◌, ltb, leb, length, drop};
-ghost use Rattle.fields.specs.Fields.{digit};
-ghost use Rattle.texts.specs.Buffers.{Puts};
-ghost use Rattle.numbers.specs.Numbers.{number_word, missing, digits_on, read_number, unpadded, read_argument, of_number};
+ghost use Rattle.std.specs.Prelude.{◌≡◌, ◌≤◌, ◌+◌, ◌++◌, IfSome};
+ghost use Rattle.arrayvec.specs.ArrayVec.{array_vec_len};
+ghost use Rattle.numbers.specs.Numbers.{number_word, of_read, with_digit, digits_on, read_number, unpadded, read_argument};
 
-pub const MOST_64: u64 = 18_446_744_073_709_551_615;
+use arrayvec::ArrayVec;
 
 // ---- written
 
-// Writes from `at` on, the mark behind the digits, and answers where it ended.
-pub fn put_number(n: u64, mark: u8, out: &mut [u8], at: usize) -> usize
-    requires { at + 21 ≤ length out.old }
-    ensures { Puts (number_word mark n) at out.old out.new result }
+// A number and the mark behind it, put behind what stands there.
+#[tactic(auto, using(crate::proofs::Numbers::word_put, crate::proofs::Numbers::number_short))]
+pub fn put_number<const N: usize>(n: u64, mark: u8, out: &mut ArrayVec<u8, N>)
+    requires room { array_vec_len out.old + 21 ≤ N }
+    ensures appended { out.new.items ≡ out.old.items ++ number_word mark n }
+    ensures short { array_vec_len out.new ≤ array_vec_len out.old + 21 }
 {
-    let mut digits = [0u8; 20];
-    let count = io::decimal(n, &mut digits);
-    let end = texts::put(&digits[..count], out, at);
-    out[end] = mark;
-    end + 1
+    let mut digits = itoa::Buffer::new();
+    texts::append(digits.format(n).as_bytes(), out);
+    out.push(mark);
 }
 
-// ---- read: from `at` on. Where the number does not stand there, nothing is left to read: `end` is the text's end.
+// ---- read, at the front of a text: the value, and what stands behind its mark
 
-// A number, and where what stands behind its mark begins.
-#[derive(Clone, Copy)]
-pub struct NumberRead {
-    pub there: bool,
-    pub value: u64,
-    pub end: usize,
-}
-
-fn no_number(text: &[u8]) -> NumberRead
-    ensures result_value { of_number text.now result ≡ missing 0 }
-    ensures value_value { result.value ≡ 0 }
-    ensures end_value { result.end ≡ length text.now }
+// The number with a digit more, where it may have one.
+fn with_digit(n: u64, byte: u8, most: u64) -> Option<u64>
+    ensures { result ≡ with_digit most n byte }
 {
-    NumberRead {
-        there: false,
-        value: 0,
-        end: text.len(),
+    if n == 0 || !fields::is_digit(byte) {
+        return None;
     }
+    let longer = n.checked_mul(10)?.checked_add(fields::digit_value(byte))?;
+    if longer <= most { Some(longer) } else { None }
 }
 
-// Whether a byte is a digit that may follow those of n.
-fn may_follow(n: u64, byte: u8, most: u64) -> bool
-    requires { 9 ≤ most }
-    ensures { result ≡ digit byte && ltb 0 n && leb (n * 10 + (byte - 48)) most }
-{
-    if !fields::is_digit(byte) {
-        return false;
-    }
-    (0 < n) & (n <= (most - fields::digit_value(byte)) / 10)
-}
-
-// The digits behind those of n, up to the mark.
-fn read_digits(text: &[u8], from: usize, first: u64, most: u64, mark: u8) -> NumberRead
-    requires from_in_bounds { from ≤ length text.now }
-    requires first_le_most { first ≤ most }
-    requires le_most { 9 ≤ most }
-    ensures result_value { of_number text.now result ≡ digits_on most mark first (drop from text.now) }
-    ensures end_in_bounds { result.end ≤ length text.now }
-    ensures value_le_most { result.value ≤ most }
+// The digits behind those of `first`, up to the mark.
+#[tactic(auto, using(crate::proofs::Bytes::on_mark, crate::proofs::Bytes::on_more))]
+fn read_digits(text: &[u8], first: u64, most: u64, mark: u8) -> Option<(u64, &[u8])>
+    requires { first ≤ most }
+    ensures value { of_read result ≡ digits_on most mark first text.now }
+    ensures at_most { IfSome result (λ p. p.0 ≤ most) }
 {
     let mut n = first;
-    let mut i = from;
-    while i < text.len() {
-        if text[i] == mark {
-            return NumberRead {
-                there: true,
-                value: n,
-                end: i + 1,
-            };
+    for (i, byte) in text.iter().enumerate() {
+        if *byte == mark {
+            return Some((n, &text[i + 1..]));
         }
-        if !may_follow(n, text[i], most) {
-            return no_number(text);
-        }
-        n = n * 10 + fields::digit_value(text[i]);
-        i += 1;
+        n = with_digit(n, *byte, most)?;
     }
-    no_number(text)
+    None
 }
 
 // A number of at most `most`, up to its mark.
-pub fn read_number(text: &[u8], at: usize, most: u64, mark: u8) -> NumberRead
-    requires at_in_bounds { at ≤ length text.now }
-    requires le_most { 9 ≤ most }
-    ensures result_value { of_number text.now result ≡ read_number most mark (drop at text.now) }
-    ensures end_in_bounds { result.end ≤ length text.now }
-    ensures value_le_most { result.value ≤ most }
+#[tactic(auto, using(crate::proofs::Bytes::nothing_there, crate::proofs::Bytes::no_first, crate::proofs::Bytes::first_digit))]
+pub fn read_number(text: &[u8], most: u64, mark: u8) -> Option<(u64, &[u8])>
+    requires { 9 ≤ most }
+    ensures value { of_read result ≡ read_number most mark text.now }
+    ensures at_most { IfSome result (λ p. p.0 ≤ most) }
 {
-    if text.len() <= at {
-        return no_number(text);
+    match text {
+        [first, rest @ ..] if fields::is_digit(*first) => {
+            read_digits(rest, fields::digit_value(*first), most, mark)
+        }
+        _ => None,
     }
-    if !fields::is_digit(text[at]) {
-        return no_number(text);
-    }
-    read_digits(text, at + 1, fields::digit_value(text[at]), most, mark)
 }
 
-// Where a number begins behind its leading zeros, of which up to 19 are passed over.
-fn past_zeros(text: &[u8], from: usize) -> usize
-    requires { from ≤ length text.now }
-    ensures text_value { drop result text.now ≡ unpadded 19 (drop from text.now) }
-    ensures upper_bound { result ≤ length text.now }
+// What stands behind a number's leading zeros, of which up to 19 are passed over.
+#[tactic(auto, using(crate::proofs::Bytes::none_left, crate::proofs::Bytes::too_short, crate::proofs::Bytes::no_zero, crate::proofs::Bytes::no_digit, crate::proofs::Bytes::one_passed))]
+fn past_zeros(text: &[u8]) -> &[u8]
+    ensures { result.now ≡ unpadded 19 text.now }
 {
-    let mut at = from;
-    let mut left: u32 = 19;
-    while 0 < left {
-        if text.len() - at < 2 {
-            return at;
+    let mut rest = text;
+    for _ in 0..19_u32 {
+        match rest {
+            [b'0', next, ..] if fields::is_digit(*next) => rest = &rest[1..],
+            _ => return rest,
         }
-        if !((text[at] == b'0') & fields::is_digit(text[at + 1])) {
-            return at;
-        }
-        at += 1;
-        left -= 1;
     }
-    at
+    rest
 }
 
 // A number of 64 bits as an argument of a command, up to its mark.
-pub fn read_argument(text: &[u8], at: usize, mark: u8) -> NumberRead
-    requires { at ≤ length text.now }
-    ensures result_value { of_number text.now result ≡ read_argument mark (drop at text.now) }
-    ensures end_in_bounds { result.end ≤ length text.now }
+#[tactic(auto, unfolding(crate::specs::Numbers::read_argument))]
+pub fn read_argument(text: &[u8], mark: u8) -> Option<(u64, &[u8])>
+    ensures { of_read result ≡ read_argument mark text.now }
 {
-    read_number(text, past_zeros(text, at), MOST_64, mark)
+    read_number(past_zeros(text), u64::MAX, mark)
 }

@@ -1,12 +1,13 @@
 // The channel at place 0, by signal.
 #![tactic(auto)]
 
-ghost use Rattle.std.specs.Prelude.{◌≡◌, ◌≤◌};
-ghost use Rattle.starts.specs.Starts.{Listed};
+ghost use Rattle.std.specs.Prelude.{◌≡◌};
 ghost use Rattle.machine.specs.Machine.{at_zero, opened_as, opened};
 ghost use Rattle.machine.specs.Signals.{signal_p};
+ghost use Rattle.signals.specs.Signals.{number_of};
 
 use machine::Channel;
+use signals::{Prn, Signal};
 
 // A channel at place 0, given its delay line and the starts of its generators.
 fn at_zero(
@@ -48,30 +49,37 @@ fn open_p(signal: u32, prn: u32) -> Channel
     )
 }
 
-// The channel of a signal and a PRN that there are.
-pub fn open_listed(signal: u32, prn: u32) -> Channel
-    requires le_signal { 1 ≤ signal }
-    requires signal_bound { signal ≤ 6 }
-    requires listed { Listed 37 prn }
-    ensures { result ≡ opened signal prn }
+// The channel of a signal and a PRN.
+#[tactic(auto, unfolding(machine::specs::Machine::opened))]
+pub fn open(signal: Signal, prn: Prn) -> Channel
+    ensures { result ≡ opened (number_of signal) prn.number }
 {
+    let number = signal.number();
     match signal {
-        1 => at_zero(signal, prn, 0, starts::start_g1(), starts::start_g2(), 0, 0),
-        2 => open_p(signal, prn),
-        3 => at_zero(signal, prn, 0, starts::start_cm(prn), 0, 0, 0),
-        4 => at_zero(signal, prn, 0, 0, starts::start_cl(prn), 0, 0),
-        5 => at_zero(
-            signal,
-            prn,
+        Signal::Ca => at_zero(
+            number,
+            prn.number,
+            0,
+            starts::start_g1(),
+            starts::start_g2(),
+            0,
+            0,
+        ),
+        Signal::P => open_p(number, prn.number),
+        Signal::L2Cm => at_zero(number, prn.number, 0, starts::start_cm(prn), 0, 0, 0),
+        Signal::L2Cl => at_zero(number, prn.number, 0, 0, starts::start_cl(prn), 0, 0),
+        Signal::I5 => at_zero(
+            number,
+            prn.number,
             0,
             starts::start_xa(),
             starts::start_i5(prn),
             0,
             0,
         ),
-        _ => at_zero(
-            signal,
-            prn,
+        Signal::Q5 => at_zero(
+            number,
+            prn.number,
             0,
             starts::start_xa(),
             starts::start_q5(prn),

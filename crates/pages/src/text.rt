@@ -1,141 +1,88 @@
-// Text on a page: a slice of bytes, of which those before `at` are written. Each function writes from `at` on and answers where it ended. What the page has no room for is
-// left out, so that no caller has to count; the comparison of the program's output would show it.
+// Numbers with commas, bits as digits, and a refusal in the place of what was asked for.
 ghost use Rattle.std.specs.Prelude.{◌<◌};
 
-use std::io;
+use refusals::Refusal;
+use std::fmt;
 
-pub fn put(page: &mut [u8], at: usize, byte: u8) -> usize {
-    if at < page.len() {
-        page[at] = byte;
-        return at + 1;
+// ---- numbers
+
+// A comma where groups of three digits are left.
+#[derive(Clone, Copy, Debug, PartialEq, Eq)]
+pub struct Grouped(pub u64);
+
+fn write_grouped<W: fmt::Write>(f: &mut fmt::Formatter<W>, n: u64) -> fmt::Result {
+    if n < 1_000 {
+        return write!(f, "{n}");
     }
-    at
+    write_grouped(f, n / 1_000)?;
+    let last = n % 1_000;
+    write!(f, ",{last:03}")
 }
 
-pub fn put_text(page: &mut [u8], from: usize, text: &[u8]) -> usize {
-    let mut at = from;
-    let mut i = 0;
-    while i < text.len() {
-        at = put(page, at, text[i]);
-        i += 1;
+impl fmt::Display for Grouped {
+    fn fmt<W: fmt::Write>(&self, f: &mut fmt::Formatter<W>) -> fmt::Result {
+        write_grouped(f, self.0)
     }
-    at
-}
-
-// A byte in all columns of a width that are not taken.
-pub fn put_fill(page: &mut [u8], from: usize, byte: u8, taken: usize, width: usize) -> usize {
-    let mut at = from;
-    let mut i = taken;
-    while i < width {
-        at = put(page, at, byte);
-        i += 1;
-    }
-    at
-}
-
-// Spaces, up to a column of the line that began there.
-pub fn pad(page: &mut [u8], at: usize, began: usize, column: usize) -> usize {
-    if at < began {
-        return at;
-    }
-    put_fill(page, at, b' ', at - began, column)
 }
 
 // ---- bits
 
 // What a digit stands for: one chip or stage, three, or four.
-#[derive(Clone, Copy)]
+#[derive(Clone, Copy, Debug, PartialEq, Eq)]
 pub enum Digits {
-    Binary,
-    Octal,
-    Hexadecimal,
+    Binary = 1,
+    Octal = 3,
+    Hexadecimal = 4,
 }
 
-fn bits_to_a(digit: Digits) -> usize
-    ensures { 0 < result }
-{
-    match digit {
-        Digits::Binary => 1,
-        Digits::Octal => 3,
-        Digits::Hexadecimal => 4,
+impl Digits {
+    fn width(self) -> usize
+        ensures { 0 < result }
+    {
+        self as usize
     }
-}
-
-fn digit_glyph(digit: u8) -> u8 {
-    if digit < 10 {
-        return b'0' + digit;
-    }
-    if digit < 16 {
-        return b'A' + (digit - 10);
-    }
-    b'?'
 }
 
 // Chips or stages as one number, the first of them its highest digit in base two. If they do not fill the digits the first digit has fewer, as in the standards' octal: ten
 // chips are one digit of one chip and three digits of three.
-pub fn put_bits(page: &mut [u8], from: usize, bits: &[u8], digits: Digits) -> usize {
-    let group = bits_to_a(digits);
-    let mut at = from;
-    let mut digit: u8 = 0;
-    let mut i = 0;
-    while i < bits.len() {
-        digit = digit % 8 * 2 + bits[i] % 2;
-        i += 1;
-        if (bits.len() - i) % group == 0 {
-            at = put(page, at, digit_glyph(digit));
-            digit = 0;
+#[derive(Clone, Copy, Debug, PartialEq, Eq)]
+pub struct Bits<const N: usize> {
+    pub bits: [u8; N],
+    pub digits: Digits,
+}
+
+// The remainders keep a digit below 16, whatever the bytes are.
+pub(crate) fn write_bits<W: fmt::Write>(
+    f: &mut fmt::Formatter<W>,
+    bits: &[u8],
+    digits: Digits,
+) -> fmt::Result {
+    for group in bits.rchunks(digits.width()).rev() {
+        let digit = group
+            .iter()
+            .fold(0u8, |digit, bit| digit % 8 * 2 + *bit % 2);
+        write!(f, "{digit:X}")?;
+    }
+    Ok(())
+}
+
+impl<const N: usize> fmt::Display for Bits<N> {
+    fn fmt<W: fmt::Write>(&self, f: &mut fmt::Formatter<W>) -> fmt::Result {
+        write_bits(f, &self.bits, self.digits)
+    }
+}
+
+// ---- refusals
+
+// What a call gave, or that it refused.
+#[derive(Clone, Copy, Debug, PartialEq, Eq)]
+pub struct Shown<T>(pub Result<T, Refusal>);
+
+impl<T: fmt::Display> fmt::Display for Shown<T> {
+    fn fmt<W: fmt::Write>(&self, f: &mut fmt::Formatter<W>) -> fmt::Result {
+        match &self.0 {
+            Ok(value) => write!(f, "{value}"),
+            Err(refusal) => write!(f, "refused {}", refusal.number()),
         }
     }
-    at
-}
-
-// ---- numbers
-
-// At the right of so many columns, which a fill is put into.
-pub fn put_right(page: &mut [u8], from: usize, n: u64, width: usize, fill: u8) -> usize {
-    let mut buffer = itoa::Buffer::new();
-    let digits = buffer.format(n).as_bytes();
-    let at = put_fill(page, from, fill, digits.len(), width);
-    put_text(page, at, digits)
-}
-
-// With a comma where groups of three are left.
-fn put_groups(page: &mut [u8], from: usize, digits: &[u8]) -> usize {
-    let mut at = from;
-    let mut i = 0;
-    while i < digits.len() {
-        at = put(page, at, digits[i]);
-        i += 1;
-        let left = digits.len() - i;
-        if (0 < left) & (left % 3 == 0) {
-            at = put(page, at, b',');
-        }
-    }
-    at
-}
-
-// With commas, as document 01 writes its numbers.
-pub fn put_grouped(page: &mut [u8], at: usize, n: u64) -> usize {
-    let mut buffer = itoa::Buffer::new();
-    put_groups(page, at, buffer.format(n).as_bytes())
-}
-
-// A word, and the number that belongs to it.
-pub fn put_counted(page: &mut [u8], from: usize, word: &[u8], n: u64) -> usize {
-    let at = put_text(page, from, word);
-    put_grouped(page, at, n)
-}
-
-pub fn put_refused(page: &mut [u8], at: usize, refusal: u32) -> usize {
-    put_counted(page, at, b"refused ", refusal as u64)
-}
-
-// ---- the page
-
-// Writes all of the page before `end` to standard output, in one write where the system takes it, or says why it was not written.
-pub fn write_page(rt: &impl Print, page: &[u8], end: usize) -> io::Result<()> {
-    if end <= page.len() {
-        return rt.write_all(&page[..end]);
-    }
-    Err(io::Error::from(io::ErrorKind::InvalidInput))
 }

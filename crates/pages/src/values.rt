@@ -1,66 +1,61 @@
 // Values: what a cell shows that is no chip.
-use crate::{chips, text};
+use crate::text::Grouped;
+use machine::Mode;
+use signals::Signal;
+use std::fmt;
 
-#[derive(Clone, Copy)]
-pub enum Word {
-    // One of P's generators.
-    Generator(u64),
-    // How a generator runs.
-    Running,
-    // What a step gives.
+#[derive(Clone, Copy, Debug, PartialEq, Eq)]
+pub enum Value {
+    Count(u64),
+    // From one place to another, below 0 where it lies before it.
+    Gap(i64),
+    // The number of a chip in its cycle, at the right of four columns.
+    Chip(u64),
+    Register { signal: Signal, stages: u32 },
+    Mode(Mode),
+    // What a step gives: the opened channel, or another one.
     Opened,
     Another,
 }
 
-#[derive(Clone, Copy)]
-pub enum Value {
-    // A number at the right of so many columns, which the byte fills.
-    Right(u64, usize, u8),
-    // With commas, and of a number below 0 its size.
-    Grouped(u64),
-    Negative(u64),
-    Held(u64),
-    Word(Word),
-    // A register of a signal.
-    Register(u64, u32),
-    // P of a PRN, so many hours on.
-    Advance(u64, u64),
-    Refused(u32),
-}
-
-// The name at the left of four columns.
-fn name(generator: u64) -> [u8; 4] {
-    match generator {
-        1 => *b"X1A ",
-        2 => *b"X1B ",
-        3 => *b"X2A ",
-        _ => *b"X2B ",
+impl fmt::Display for Value {
+    fn fmt<W: fmt::Write>(&self, f: &mut fmt::Formatter<W>) -> fmt::Result {
+        match *self {
+            Value::Count(n) => write!(f, "{}", Grouped(n)),
+            Value::Gap(chips) => write_gap(f, chips),
+            Value::Chip(n) => write!(f, "{n:>4}"),
+            Value::Register { signal, stages } => write_register(f, signal, stages),
+            Value::Mode(mode) => write_mode(f, mode),
+            Value::Opened => write!(f, "the opened channel"),
+            Value::Another => write!(f, "another channel"),
+        }
     }
 }
 
-fn put_name(page: &mut [u8], at: usize, generator: u64) -> usize {
-    let words = name(generator);
-    text::put_text(page, at, &words)
+fn write_gap<W: fmt::Write>(f: &mut fmt::Formatter<W>, chips: i64) -> fmt::Result {
+    if chips < 0 {
+        write!(f, "-")?;
+    }
+    write!(f, "{}", Grouped(chips.unsigned_abs()))
 }
 
-fn put_word(page: &mut [u8], at: usize, word: Word) -> usize {
-    match word {
-        Word::Generator(generator) => put_name(page, at, generator),
-        Word::Running => text::put_text(page, at, b"running"),
-        Word::Opened => text::put_text(page, at, b"the opened channel"),
-        Word::Another => text::put_text(page, at, b"another channel"),
+// L2's 27 stages in octal, as the standards have them, and all others in binary.
+fn write_register<W: fmt::Write>(
+    f: &mut fmt::Formatter<W>,
+    signal: Signal,
+    stages: u32,
+) -> fmt::Result {
+    match signal {
+        Signal::Ca => write!(f, "{stages:010b}"),
+        Signal::P => write!(f, "{stages:012b}"),
+        Signal::L2Cm | Signal::L2Cl => write!(f, "{stages:09o}"),
+        Signal::I5 | Signal::Q5 => write!(f, "{stages:013b}"),
     }
 }
 
-pub fn put_value(page: &mut [u8], at: usize, value: Value) -> usize {
-    match value {
-        Value::Right(n, width, fill) => text::put_right(page, at, n, width, fill),
-        Value::Grouped(n) => text::put_grouped(page, at, n),
-        Value::Negative(size) => text::put_counted(page, at, b"-", size),
-        Value::Held(count) => text::put_counted(page, at, b"held ", count),
-        Value::Word(word) => put_word(page, at, word),
-        Value::Register(signal, register) => chips::put_register(page, at, signal, register),
-        Value::Advance(prn, hours) => chips::put_advance(page, at, prn, hours),
-        Value::Refused(refusal) => text::put_refused(page, at, refusal),
+fn write_mode<W: fmt::Write>(f: &mut fmt::Formatter<W>, mode: Mode) -> fmt::Result {
+    match mode {
+        Mode::Running => write!(f, "running"),
+        Mode::Held(chips) => write!(f, "held {}", Grouped(u64::from(chips))),
     }
 }

@@ -1,16 +1,13 @@
 -- What Reading, Place of and Gap answer, for every input: document 01, "Signals and places" and "Operations and refusals". "Where several refusals apply,
 -- the one written first is given."
 -- Assumes nothing.
-use Rattle.std.specs.Prelude.{ℕ, ◌+◌, ◌*◌, ◌/◌, ◌%◌, cond, ◌&&◌, ◌||◌, ltb, eqb, ℤ, pos, neg_ℤ, ◌+ℤ◌, ◌-ℤ◌}
+use Rattle.std.specs.Prelude.{ℕ, ◌+◌, ◌*◌, ◌/◌, ◌%◌, cond, ◌&&◌, ◌||◌, ltb, eqb, Result, Ok, Err, ℤ, pos, neg_ℤ, ◌+ℤ◌, ◌-ℤ◌}
 use Rattle.std.specs.Int.Signed.{lt_z, le_z}
 use Rattle.machine.specs.Signals.{week_of}
 use Rattle.machine.specs.Machine.{is_signal}
-use Rattle.places.specs.declared.Read.{Read}
-use Rattle.places.specs.declared.Read.TheVariants as reads
-use Rattle.places.specs.declared.Placed.{Placed}
-use Rattle.places.specs.declared.Placed.TheVariants as places
-use Rattle.places.specs.declared.Parted.{Parted}
-use Rattle.places.specs.declared.Parted.TheVariants as parts
+use Rattle.refusals.specs.Refusal.{number_of}
+use Rattle.refusals.specs.declared.Refusal.{Refusal}
+use Rattle.places.specs.declared.readings.Reading.{Reading}
 
 -- An answer: what was asked for, or document 01's number of the refusal.
 pub data Reply (A : Type 0) : Type 0 where
@@ -30,10 +27,9 @@ epochs = 403200
 -- ---- reading
 
 -- what each case of the answer says: epoch and chip
-abbrev pub of_read : Read → Reply (ℕ × ℕ)
-of_read (reads.At epoch chip) = answer (epoch, chip)
-of_read reads.NoSignal = refusal 1
-of_read reads.NoPlace = refusal 3
+abbrev pub of_read : Result Reading Refusal → Reply (ℕ × ℕ)
+of_read (Ok read) = answer (read.epoch, read.chip)
+of_read (Err r) = refusal (number_of r)
 
 -- "(signal, place): epoch and chip in it. 1, 3.": the whole epochs before the place, and the chips since
 unfoldable pub reading_reply : ℕ → ℕ → Reply (ℕ × ℕ)
@@ -47,11 +43,9 @@ reading_reply signal place =
 -- ---- place of
 
 -- what each case of the answer says: the place
-abbrev pub of_placed : Placed → Reply ℕ
-of_placed (places.At place) = answer place
-of_placed places.NoSignal = refusal 1
-of_placed places.NoEpoch = refusal 7
-of_placed places.NoChip = refusal 8
+abbrev pub of_placed : Result ℕ Refusal → Reply ℕ
+of_placed (Ok place) = answer place
+of_placed (Err r) = refusal (number_of r)
 
 -- "(signal, epoch, chip): 1; 7: epoch not below 403,200; 8: chip not below E.": the place after so many whole epochs and so many chips
 unfoldable pub place_of_reply : ℕ → ℕ → ℕ → Reply ℕ
@@ -67,10 +61,9 @@ place_of_reply signal epoch chip =
 -- ---- gap, in signed numbers: `pos n` is n, and `le_z` and `lt_z` compare
 
 -- what each case of the answer says: the chips, a signed number
-abbrev pub of_parted : Parted → Reply ℤ
-of_parted (parts.By chips) = answer chips
-of_parted parts.NoSignal = refusal 1
-of_parted parts.NoPlace = refusal 3
+abbrev pub of_parted : Result ℤ Refusal → Reply ℤ
+of_parted (Ok chips) = answer chips
+of_parted (Err r) = refusal (number_of r)
 
 -- d less w where it is half or more, d plus w where it is below -half, else d
 abbrev pub folded_by : ℤ → ℤ → ℤ → ℤ

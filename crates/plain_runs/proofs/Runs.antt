@@ -2,16 +2,13 @@
 --     in_cycle_lem   a generator that is never held stays below its last phase in a stretch
 --     stays          a generator that the signal lacks
 --     run_advance, run_chips   where a run comes to, and its chips
---     more           a loop that writes a window has written a run more
 -- Assumes nothing.
-use Prim.Native.Nat.{ℕ, ◌+◌, ◌-◌, ◌<◌, ◌≤◌}
+use Prim.Native.Nat.{ℕ, ◌+◌, ◌<◌, ◌≤◌}
 use mathlib.Core.Bool.{true, false}
-use mathlib.Core.Path.{◌≡◌, refl, sym, ap, ◌∙◌, subst}
-use mathlib.Core.List.{List, ◌++◌}
+use mathlib.Core.Path.{◌≡◌, refl, sym, ◌∙◌, subst}
 use native.Mathlib.Nat.{mod-one}
 use native.Mathlib.Omega.{arith}
 use lib.Dec.{T}
-use lib.ListN.{length, take, drop}
 use Rattle.machine.specs.Generators.{Kind, mode_in_range}
 use Rattle.machine.specs.Signals.{signal_of, plain, none}
 use Rattle.machine.specs.Machine.{advance, chips}
@@ -25,7 +22,6 @@ use Rattle.digits.specs.Digits.{row}
 use Rattle.stretches.specs.Stretches.{stretch_in, stretch}
 use Rattle.stretches.proofs.LawOfRuns.{Goes}
 use Rattle.stretches.proofs.Along.{Along, at_is, chips_are}
-use Rattle.stepped.proofs.ChipsSoFar.{SoFar, part_more}
 use Rattle.plain_runs.specs.Inner.{moved_by}
 
 -- ---- a generator that is never held
@@ -66,19 +62,3 @@ module _ (week : ℕ) (a b : Kind) (chip : Channel → ℕ) (n : ℕ) (ch : Chan
 
       pub run_chips : chips n ch ≡ row (λ j. chip (moved_by j (first j) (second j) ch)) n
       run_chips = chips_are (plain week a b chip) n ch first second _ _ _ named (along r f s one in_week) n (omega arith)
-
-  -- a run in a loop that writes a window
-  pub more : (count : ℕ) (old new part : List ℕ) (start next : Channel) (m : ℕ) → SoFar (λ prn. plain week a b chip) count old start new ch m
-      → m + n ≤ count
-      → Goes a n ch.first first
-      → Goes b n ch.second second
-      → ((j : ℕ) → (first j).cycles ≡ ch.first.cycles)
-      → ch.place + n < week
-      → part ≡ row (λ j. chip (moved_by j (first j) (second j) ch)) n ++ drop n (take (length new - m) (drop m new))
-      → next ≡ moved_by n (first n) (second n) ch
-      → SoFar (λ prn. plain week a b chip) count old start (take m new ++ (part ++ drop (length new - m) (drop m new))) next (m + n)
-  more count old new part start next m w room f s one in_week part-is next-is =
-      let there = run_advance w.is.named w.is.fields f s one in_week in
-      let given = run_chips w.is.named w.is.fields f s one in_week in
-      part_more (λ prn. plain week a b chip) count old start new part ch next m n w room
-      (part-is ∙ ap (λ (l : List ℕ). l ++ drop n (take (length new - m) (drop m new))) (sym given)) (next-is ∙ sym there)

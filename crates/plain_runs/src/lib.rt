@@ -13,17 +13,10 @@ pub fn move_by(ch: Channel, n: usize, first: Generator, second: Generator) -> Ch
     requires { ch.place + n < week_l5 }
     ensures { result ≡ moved_by n first second ch }
 {
-    let third = ch.third;
-    let fourth = ch.fourth;
     Channel {
-        signal: ch.signal,
-        prn: ch.prn,
         place: ch.place + n as u64,
-        epoch: ch.epoch,
-        delay: ch.delay,
         first,
         second,
-        third,
-        fourth,
+        ..ch
     }
 }

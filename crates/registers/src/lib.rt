@@ -1,14 +1,27 @@
-// The shifts of the nine registers. A register is a number: stage k is its binary digit k - 1, so stage 1 is the lowest digit.
-// Each function is one shift; `specs/Register.antt` says what a shift is, by the list of stages that document 01 prints.
+// The shifts of the nine registers, each as a type of one trait. A register is a number: stage k is its binary digit k - 1, so stage 1 is the lowest
+// digit. `specs/Register.antt` says what a shift is, by the stages that IS-GPS-200 and IS-GPS-705 list.
 #![tactic(auto)]
 
-ghost use Rattle.std.specs.Prelude.{◌≡◌, ◌+◌, ◌*◌, ◌%◌, ◌^◌, ◌<◌, ◌≤◌};
+ghost use Rattle.std.specs.Prelude.{◌≡◌, ℕ, ◌+◌, ◌*◌, ◌%◌, ◌^◌, ◌<◌, ◌≤◌};
 ghost use Rattle.std.specs.Int.Bits.{bit_and};
 ghost use Rattle.std.specs.Int.Count.{ones};
 ghost use Rattle.registers.specs.Register.{shift_g1, shift_g2, shift_x1a, shift_x1b, shift_x2a, shift_x2b, shift_xa, shift_xb, shift_l2};
 
+// A register of so many stages.
+pub trait Register {
+    ghost width: { ℕ };
+
+    ghost shift: { ℕ → ℕ };
+
+    // One shift.
+    fn shift(register: u32) -> u32
+        requires { register < 2 ^ width }
+        ensures { result ≡ shift register };
+}
+
 // The sum modulo 2 of the digits of a number of at most thirteen. The number is folded to six digits, which keeps that sum, and digit n of
 // the constant is the sum for n.
+#[tactic(auto, using(crate::proofs::Masks::folds))]
 fn parity(x: u32) -> u32
     requires { x < 2 ^ 13 }
     ensures { result ≡ ones x % 2 }
@@ -27,62 +40,124 @@ fn shifted(register: u32, top: u32, taps: u32) -> u32
     register % top * 2 + parity(register & taps)
 }
 
-pub fn shift_g1(register: u32) -> u32
-    requires { register < 2 ^ 10 }
-    ensures { result ≡ shift_g1 register }
-{
-    shifted(register, 0b10_0000_0000, 0b10_0000_0100)
+pub struct G1;
+
+impl Register for G1 {
+    ghost width = { 10 };
+
+    ghost shift = { shift_g1 };
+
+    #[tactic(auto, using(crate::proofs::Taps::g1_masked))]
+    fn shift(register: u32) -> u32 {
+        shifted(register, 0b10_0000_0000, 0b10_0000_0100)
+    }
 }
 
-pub fn shift_g2(register: u32) -> u32
-    requires { register < 2 ^ 10 }
-    ensures { result ≡ shift_g2 register }
-{
-    shifted(register, 0b10_0000_0000, 0b11_1010_0110)
+pub struct G2;
+
+impl Register for G2 {
+    ghost width = { 10 };
+
+    ghost shift = { shift_g2 };
+
+    #[tactic(auto, using(crate::proofs::Taps::g2_masked))]
+    fn shift(register: u32) -> u32 {
+        shifted(register, 0b10_0000_0000, 0b11_1010_0110)
+    }
 }
 
-pub fn shift_x1a(register: u32) -> u32
-    requires { register < 2 ^ 12 }
-    ensures { result ≡ shift_x1a register }
-{
-    shifted(register, 0b1000_0000_0000, 0b1100_1010_0000)
+pub struct X1A;
+
+impl Register for X1A {
+    ghost width = { 12 };
+
+    ghost shift = { shift_x1a };
+
+    #[tactic(auto, using(crate::proofs::Taps::x1a_masked))]
+    fn shift(register: u32) -> u32 {
+        shifted(register, 0b1000_0000_0000, 0b1100_1010_0000)
+    }
 }
 
-pub fn shift_x1b(register: u32) -> u32
-    requires { register < 2 ^ 12 }
-    ensures { result ≡ shift_x1b register }
-{
-    shifted(register, 0b1000_0000_0000, 0b1111_1001_0011)
+pub struct X1B;
+
+impl Register for X1B {
+    ghost width = { 12 };
+
+    ghost shift = { shift_x1b };
+
+    #[tactic(auto, using(crate::proofs::Taps::x1b_masked))]
+    fn shift(register: u32) -> u32 {
+        shifted(register, 0b1000_0000_0000, 0b1111_1001_0011)
+    }
 }
 
-pub fn shift_x2a(register: u32) -> u32
-    requires { register < 2 ^ 12 }
-    ensures { result ≡ shift_x2a register }
-{
-    shifted(register, 0b1000_0000_0000, 0b1111_1101_1101)
+pub struct X2A;
+
+impl Register for X2A {
+    ghost width = { 12 };
+
+    ghost shift = { shift_x2a };
+
+    #[tactic(auto, using(crate::proofs::Taps::x2a_masked))]
+    fn shift(register: u32) -> u32 {
+        shifted(register, 0b1000_0000_0000, 0b1111_1101_1101)
+    }
 }
 
-pub fn shift_x2b(register: u32) -> u32
-    requires { register < 2 ^ 12 }
-    ensures { result ≡ shift_x2b register }
-{
-    shifted(register, 0b1000_0000_0000, 0b1001_1000_1110)
+pub struct X2B;
+
+impl Register for X2B {
+    ghost width = { 12 };
+
+    ghost shift = { shift_x2b };
+
+    #[tactic(auto, using(crate::proofs::Taps::x2b_masked))]
+    fn shift(register: u32) -> u32 {
+        shifted(register, 0b1000_0000_0000, 0b1001_1000_1110)
+    }
 }
 
-pub fn shift_xa(register: u32) -> u32
-    requires { register < 2 ^ 13 }
-    ensures { result ≡ shift_xa register }
-{
-    shifted(register, 0b1_0000_0000_0000, 0b1_1011_0000_0000)
+pub struct XA;
+
+impl Register for XA {
+    ghost width = { 13 };
+
+    ghost shift = { shift_xa };
+
+    #[tactic(auto, using(crate::proofs::Taps::xa_masked))]
+    fn shift(register: u32) -> u32 {
+        shifted(register, 0b1_0000_0000_0000, 0b1_1011_0000_0000)
+    }
 }
 
-pub fn shift_xb(register: u32) -> u32
-    requires { register < 2 ^ 13 }
-    ensures { result ≡ shift_xb register }
-{
-    shifted(register, 0b1_0000_0000_0000, 0b1_1000_1110_1101)
+pub struct XB;
+
+impl Register for XB {
+    ghost width = { 13 };
+
+    ghost shift = { shift_xb };
+
+    #[tactic(auto, using(crate::proofs::Taps::xb_masked))]
+    fn shift(register: u32) -> u32 {
+        shifted(register, 0b1_0000_0000_0000, 0b1_1000_1110_1101)
+    }
 }
 
+// The register of L2 CM and of L2 CL.
+pub struct L2;
+
+impl Register for L2 {
+    ghost width = { 27 };
+
+    ghost shift = { shift_l2 };
+
+    fn shift(register: u32) -> u32 {
+        shift_l2(register)
+    }
+}
+
+// The shift of an L2 register: of any number, where the trait asks for one below 2 ^ 27.
 pub fn shift_l2(register: u32) -> u32
     ensures { result ≡ shift_l2 register }
 {

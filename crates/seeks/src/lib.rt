@@ -3,16 +3,19 @@
 #![tactic(auto)]
 
 ghost use Rattle.std.specs.Prelude.{◌≡◌, ◌-◌, ◌<◌, ◌≤◌, ◌^◌};
-ghost use Rattle.starts.specs.Starts.{Listed};
 ghost use Rattle.machine.specs.Signals.{week_ca, week_p, week_l2, week_l5, week_of};
 ghost use Rattle.machine.specs.Signals.{x2a, x2b};
 ghost use Rattle.machine.specs.Signals.{signal_ca, signal_p, from_cm, from_cl, from_l5};
 ghost use Rattle.week.specs.Standing.{generator_at};
 ghost use Rattle.week.specs.Week.{course_x2a, course_x2b};
 ghost use Rattle.week.specs.Week.{courses_ca, courses_p, courses_cm, courses_cl, courses_l5};
+ghost use Rattle.signals.specs.Signals.{number_of};
 ghost use Rattle.seeks.specs.Inner.{Filled, plain_landed, landed, landed_at};
 
+use generators::{Cl, Cm};
 use machine::{Channel, Generator};
+use registers::{G1, G2, X1A, X1B, X2A, X2B, XA, XB};
+use signals::{Prn, Signal};
 
 // E, the chips of an epoch of P.
 const EPOCH_P: u64 = 15_345_000;
@@ -26,7 +29,7 @@ const LINE_BITS: u64 = 37;
 // ---- the delay line
 
 // X2A, X2B and the delay line.
-#[derive(Clone, Copy)]
+#[derive(Clone, Copy, Debug, PartialEq, Eq)]
 pub struct Fill {
     pub third: Generator,
     pub fourth: Generator,
@@ -37,10 +40,7 @@ pub struct Fill {
 fn filled_from(place: u64) -> u64
     ensures { result ≡ place - 37 }
 {
-    if place < LINE_BITS {
-        return 0;
-    }
-    place - LINE_BITS
+    place.saturating_sub(LINE_BITS)
 }
 
 // The three at a place, by single steps of X2A and X2B, which are at place `from` as they come.
@@ -54,13 +54,11 @@ fn fill_line(from: u64, place: u64, third: Generator, fourth: Generator) -> Fill
     let mut x2a = third;
     let mut x2b = fourth;
     let mut line = machine::LINE_LIMIT - 1;
-    let mut at = from;
-    while at < place {
-        at += 1;
-        let week_end = LAST_CYCLE <= at;
+    for at in from..place {
+        let week_end = LAST_CYCLE <= at + 1;
         line = steps::next_line(x2a.register, x2b.register, line);
-        x2a = generators::step_x2a(x2a, week_end);
-        x2b = generators::step_x2b(x2b, week_end);
+        x2a = generators::step::<X2A>(x2a, starts::start_x2a(), week_end);
+        x2b = generators::step::<X2B>(x2b, starts::start_x2b(), week_end);
     }
     Fill {
         third: x2a,
@@ -71,11 +69,11 @@ fn fill_line(from: u64, place: u64, third: Generator, fourth: Generator) -> Fill
 
 // ---- a channel at a place
 
-// A channel, and how many leaps brought it there.
-#[derive(Clone, Copy)]
-pub struct Landed {
-    pub channel: Channel,
+// The leaps made, and the channel at the place sought.
+#[derive(Clone, Copy, Debug, PartialEq, Eq)]
+pub struct Sought {
     pub leaps: u32,
+    pub channel: Channel,
 }
 
 // A signal with at most two generators, which are handed in.
@@ -86,7 +84,7 @@ fn plain_at(
     first: Generator,
     second: Generator,
     leaps: u32,
-) -> Landed
+) -> Sought
     ensures { result ≡ plain_landed signal prn place first second leaps }
 {
     let channel = Channel {
@@ -100,56 +98,52 @@ fn plain_at(
         third: generators::fresh_generator(0, 0),
         fourth: generators::fresh_generator(0, 0),
     };
-    Landed { channel, leaps }
+    Sought { leaps, channel }
 }
 
-fn land_ca(signal: u32, prn: u32, place: u64) -> Landed
+fn land_ca(signal: u32, prn: u32, place: u64) -> Sought
     requires { place < week_ca }
     ensures { result ≡ landed (signal_ca prn) courses_ca signal prn place }
 {
-    let g1 = generators_at::seek_g1(place, 0);
-    let g2 = generators_at::seek_g2(place, g1.count);
+    let g1 = generators_at::seek::<G1>(starts::start_g1(), place, 0);
+    let g2 = generators_at::seek::<G2>(starts::start_g2(), place, g1.count);
     plain_at(signal, prn, place, g1.generator, g2.generator, g2.count)
 }
 
-fn land_p(signal: u32, prn: u32, place: u64) -> Landed
+fn land_p(signal: u32, prn: u32, place: u64) -> Sought
     requires { place < week_p }
     ensures { result ≡ landed (signal_p prn) courses_p signal prn place }
 {
     let from = filled_from(place);
-    let x1a = generators_at::seek_x1a(place, 0);
-    let x1b = generators_at::seek_x1b(place, x1a.count);
-    let x2a = generators_at::seek_x2a(from, x1b.count);
-    let x2b = generators_at::seek_x2b(from, x2a.count);
+    let x1a = generators_at::seek::<X1A>(starts::start_x1a(), place, 0);
+    let x1b = generators_at::seek::<X1B>(starts::start_x1b(), place, x1a.count);
+    let x2a = generators_at::seek::<X2A>(starts::start_x2a(), from, x1b.count);
+    let x2b = generators_at::seek::<X2B>(starts::start_x2b(), from, x2a.count);
     let filled = fill_line(from, place, x2a.generator, x2b.generator);
-    let first = x1a.generator;
-    let second = x1b.generator;
-    let third = filled.third;
-    let fourth = filled.fourth;
     let channel = Channel {
         signal,
         prn,
         place,
         epoch: (place / EPOCH_P) as u32,
         delay: filled.delay,
-        first,
-        second,
-        third,
-        fourth,
+        first: x1a.generator,
+        second: x1b.generator,
+        third: filled.third,
+        fourth: filled.fourth,
     };
-    Landed {
-        channel,
+    Sought {
         leaps: x2b.count,
+        channel,
     }
 }
 
-// From its start.
-fn land_cm(signal: u32, prn: u32, start: u32, place: u64) -> Landed
+// L2 CM, from its start.
+fn land_cm(signal: u32, prn: u32, start: u32, place: u64) -> Sought
     requires start_bound { start < 2 ^ 27 }
     requires place_lt_week_l2 { place < week_l2 }
     ensures { result ≡ landed (from_cm start) courses_cm signal prn place }
 {
-    let cm = generators_at::seek_cm(start, place, 0);
+    let cm = generators_at::seek::<Cm>(start, place, 0);
     plain_at(
         signal,
         prn,
@@ -160,13 +154,13 @@ fn land_cm(signal: u32, prn: u32, start: u32, place: u64) -> Landed
     )
 }
 
-// From its start.
-fn land_cl(signal: u32, prn: u32, start: u32, place: u64) -> Landed
+// L2 CL, from its start. Apart from `land_cm`: which of the two places the generator takes is all that they say.
+fn land_cl(signal: u32, prn: u32, start: u32, place: u64) -> Sought
     requires start_bound { start < 2 ^ 27 }
     requires place_lt_week_l2 { place < week_l2 }
     ensures { result ≡ landed (from_cl start) courses_cl signal prn place }
 {
-    let cl = generators_at::seek_cl(start, place, 0);
+    let cl = generators_at::seek::<Cl>(start, place, 0);
     plain_at(
         signal,
         prn,
@@ -177,31 +171,29 @@ fn land_cl(signal: u32, prn: u32, start: u32, place: u64) -> Landed
     )
 }
 
-// From XB's start.
-fn land_l5(signal: u32, prn: u32, start: u32, place: u64) -> Landed
+// I5 and Q5, from XB's start.
+fn land_l5(signal: u32, prn: u32, start: u32, place: u64) -> Sought
     requires start_bound { start < 2 ^ 13 }
     requires place_lt_week_l5 { place < week_l5 }
     ensures { result ≡ landed (from_l5 start) courses_l5 signal prn place }
 {
-    let xa = generators_at::seek_xa(place, 0);
-    let xb = generators_at::seek_xb(start, place, xa.count);
+    let xa = generators_at::seek::<XA>(starts::start_xa(), place, 0);
+    let xb = generators_at::seek::<XB>(start, place, xa.count);
     plain_at(signal, prn, place, xa.generator, xb.generator, xb.count)
 }
 
-// The channel of a signal and PRN that there are, at a place of the week.
-pub fn land(signal: u32, prn: u32, place: u64) -> Landed
-    requires le_signal { 1 ≤ signal }
-    requires signal_bound { signal ≤ 6 }
-    requires listed { Listed 37 prn }
-    requires place_bound { place < week_of signal }
-    ensures { result ≡ landed_at signal prn place }
+// The channel of a signal and a PRN at a place of the week.
+pub fn land(signal: Signal, prn: Prn, place: u64) -> Sought
+    requires { place < week_of (number_of signal) }
+    ensures { result ≡ landed_at (number_of signal) prn.number place }
 {
+    let number = signal.number();
     match signal {
-        1 => land_ca(signal, prn, place),
-        2 => land_p(signal, prn, place),
-        3 => land_cm(signal, prn, starts::start_cm(prn), place),
-        4 => land_cl(signal, prn, starts::start_cl(prn), place),
-        5 => land_l5(signal, prn, starts::start_i5(prn), place),
-        _ => land_l5(signal, prn, starts::start_q5(prn), place),
+        Signal::Ca => land_ca(number, prn.number, place),
+        Signal::P => land_p(number, prn.number, place),
+        Signal::L2Cm => land_cm(number, prn.number, starts::start_cm(prn), place),
+        Signal::L2Cl => land_cl(number, prn.number, starts::start_cl(prn), place),
+        Signal::I5 => land_l5(number, prn.number, starts::start_i5(prn), place),
+        Signal::Q5 => land_l5(number, prn.number, starts::start_q5(prn), place),
     }
 }

@@ -1,6 +1,6 @@
 // The chips that each register gives, one behind the other from its start on, and no end of a cycle among them: 64 to a word, the first chip as the
 // highest digit. A word of 64 chips can be read from any phase on, and a register from its next chips.
-#![tactic(auto)]
+#![tactic(auto, unfolding(crate::specs::Sequences::sequence, crate::specs::Sequences::given, registers::specs::Times::times, registers::specs::Register::shift, registers::specs::Register::sum_of, registers::specs::Register::stage))]
 
 ghost use Rattle.std.specs.Prelude.{◌≡◌, ◌+◌, ◌-◌, ◌/◌, ◌<◌, ◌≤◌, ◌^◌, length};
 ghost use Rattle.registers.specs.Register.{shift_g1, shift_g2, shift_x1a, shift_x1b, shift_x2a, shift_x2b, shift_xa, shift_xb};
@@ -9,7 +9,8 @@ ghost use Rattle.sequences.specs.Sequences.{sequence, word_in};
 
 mod tables;
 
-// ---- the tables
+// ---- the tables: the register's chips are computed, and are the table's. Eight functions, for each gives another table of another register; a trait with
+// eight impls would be longer.
 
 // G1's chips: two cycles of 1,023, which it comes round by itself, and what a word has beyond them.
 pub fn g1() -> [u64; 34]
@@ -70,6 +71,7 @@ pub fn xb() -> [u64; 257]
 // ---- reading
 
 // The 64 chips of a sequence from chip q on.
+#[tactic(auto, unfolding(crate::specs::Sequences::word_in))]
 pub fn word_at(sequence: &[u64], q: usize) -> u64
     requires { q / 64 + 1 < length sequence.now }
     ensures { result ≡ word_in sequence.now q }
@@ -81,9 +83,9 @@ pub fn word_at(sequence: &[u64], q: usize) -> u64
 
 // The register of chip q: its stages are the next chips, as many as it has.
 pub fn register_at(sequence: &[u64], q: usize, width: u32) -> u32
-    requires q_in_bounds { q / 64 + 1 < length sequence.now }
-    requires le_width { 1 ≤ width }
-    requires width_bound { width ≤ 32 }
+    requires chip_in_sequence { q / 64 + 1 < length sequence.now }
+    requires some_stage { 1 ≤ width }
+    requires stages_of_register { width ≤ 32 }
     ensures { result ≡ word_in sequence.now q / 2 ^ (64 - width) }
 {
     (word_at(sequence, q) >> (64 - width)) as u32

@@ -1,4 +1,5 @@
 -- EVERY SESSION at the console, and its whole output.
+--     every_input      a session's output is the answers to the input's lines, in order
 --     every_session    the output is the answers to the input's lines, in order, however the input is cut into chunks and however long a line is: what the
 --                      promises of `feed` and `finish` say of chunk after chunk, put together
 -- Assumes nothing.
@@ -13,12 +14,12 @@ use lib.Seq.{take_all, take-append-le}
 use borrow.Author.Tests.{leb-true, leb-false, eqb-false, ne_eqb}
 use Rattle.texts.specs.Saying.{whole}
 use Rattle.texts.proofs.Saying.{Plain, plain-take, kept_more, rest-append, replies-append}
-use Rattle.words.specs.declared.Last.{Last}
+use Rattle.std.specs.Prelude.{Option}
+use Rattle.machine.specs.declared.Channel.{Channel}
 use Rattle.commands.specs.Commands.{command_of}
 use Rattle.commands.specs.declared.Command.{Command}
 use Rattle.commands.proofs.LongLines.{late}
-use Rattle.sessions.proofs.Talks.{some_left}
-use Rattle.sessions.specs.Sessions.{answer_of, last_of, nobody, command_in, answers_to, lines_from, output, Talk, kept, asked, next, said, rest, replies, last_answer}
+use Rattle.sessions.specs.Sessions.{answer_of, last_of, nobody, command_in, answers_to, lines_from, output, Talk, kept, asked, next, said, rest, replies, last_answer, saying, begun}
 
 -- ---- a line of any length
 
@@ -26,11 +27,11 @@ plain_more : (l : List ℕ) (b : ℕ) → Plain l → (b ≡ 10 → ⊥) → Pla
 plain_more [] b p n = (n, tt)
 plain_more (a ∷ l) b p n = (p.0, plain_more l b p.1 n)
 
-abbrev standing : List ℕ → Last → Talk
+abbrev standing : List ℕ → Option Channel → Talk
 standing line last = record { line = line; last = last }
 
 -- the bytes kept of a line and a newline are the command that the whole line is: a longer line than is kept is none, and neither are they
-kept_command : (last : Last) (l : List ℕ) → Plain l → asked (standing (kept l) last) ≡ command_in last l
+kept_command : (last : Option Channel) (l : List ℕ) → Plain l → asked (standing (kept l) last) ≡ command_in last l
 kept_command last l plain = ap (command_of last) (kept_more 1024 l (10 ∷ [])) ∙ by (leb (length l) 1023) refl
   where
     by : (t : Bool) → leb (length l) 1023 ≡ t → command_of last (kept (l ++ (10 ∷ []))) ≡ command_of last (l ++ (10 ∷ []))
@@ -49,22 +50,22 @@ kept_some k a l e = absurd (omega (arith, e))
 
 -- ---- line after line
 
+-- where a line has begun, the end of the input has it answered
+some_left : (help : List ℕ) (t : Talk) → (length t.line ≡ 0 → ⊥) → last_answer help t ≡ answer_of help (asked t)
+some_left help t n = rw (ne_eqb (length t.line) 0 n)
+
 line_left : (l : List ℕ) → (length l ≡ 0 → ⊥) → lines_from l [] ≡ l ∷ []
 line_left l n = rw (ne_eqb (length l) 0 n)
 
 module _ (help : List ℕ) where
-  -- what is still to be said, where a session stands
-  abbrev saying : Talk → List ℕ → List ℕ
-  saying t input = replies help t input ++ last_answer help (rest t input)
-
   -- the answer to a line, and what is said after it
-  answered : (last : Last) (l bs : List ℕ) → Plain l
-      → ((later : Last) → saying (standing [] later) bs ≡ answers_to help later (lines_from [] bs))
+  answered : (last : Option Channel) (l bs : List ℕ) → Plain l
+      → ((later : Option Channel) → saying help (standing [] later) bs ≡ answers_to help later (lines_from [] bs))
       → (answer_of help (asked (standing (kept l) last)) ++ replies help (standing [] (last_of last (asked (standing (kept l) last)))) bs)
       ++ last_answer help (rest (standing [] (last_of last (asked (standing (kept l) last)))) bs)
       ≡ answers_to help last (l ∷ lines_from [] bs)
   answered last l bs plain later =
-      let say : Command → List ℕ
+      let say : Option Command → List ℕ
       = λ c. (answer_of help c ++ replies help (standing [] (last_of last c)) bs) ++ last_answer help (rest (standing [] (last_of last c)) bs)
       in
       let c = command_in last l in
@@ -73,7 +74,7 @@ module _ (help : List ℕ) where
       ∙ append_assoc (answer_of help c) (replies help t bs) (last_answer help (rest t bs))
       ∙ ap (λ (x : List ℕ). answer_of help c ++ x) (later (last_of last c))
 
-  from : (last : Last) (l input : List ℕ) → Plain l → saying (standing (kept l) last) input ≡ answers_to help last (lines_from l input)
+  from : (last : Option Channel) (l input : List ℕ) → Plain l → saying help (standing (kept l) last) input ≡ answers_to help last (lines_from l input)
   from last [] [] plain = refl
   from last (a ∷ l) [] plain =
       some_left help (standing (kept (a ∷ l)) last) (kept_some 1023 a l)
@@ -81,19 +82,23 @@ module _ (help : List ℕ) where
       ∙ sym (append-nil (answer_of help (command_in last (a ∷ l))))
       ∙ ap (answers_to help last) (sym (line_left (a ∷ l) (λ e. absurd (omega (arith, e)))))
   from last l (b ∷ bs) plain =
-      by (eqb b 10) refl (λ (later : Last). from later [] bs tt) (λ (more : Plain (l ++ (b ∷ []))). from last (l ++ (b ∷ [])) bs more)
+      by (eqb b 10) refl (λ (later : Option Channel). from later [] bs tt) (λ (more : Plain (l ++ (b ∷ []))). from last (l ++ (b ∷ [])) bs more)
     where
       stands : Bool → Talk
       stands t = cond t (standing [] (last_of last (asked (standing (kept l) last)))) (standing (kept (kept l ++ (b ∷ []))) last)
 
-      by : (t : Bool) → eqb b 10 ≡ t → ((later : Last) → saying (standing [] later) bs ≡ answers_to help later (lines_from [] bs))
-          → (Plain (l ++ (b ∷ [])) → saying (standing (kept (l ++ (b ∷ []))) last) bs ≡ answers_to help last (lines_from (l ++ (b ∷ [])) bs))
+      by : (t : Bool) → eqb b 10 ≡ t → ((later : Option Channel) → saying help (standing [] later) bs ≡ answers_to help later (lines_from [] bs))
+          → (Plain (l ++ (b ∷ [])) → saying help (standing (kept (l ++ (b ∷ []))) last) bs ≡ answers_to help last (lines_from (l ++ (b ∷ [])) bs))
           → (cond t (answer_of help (asked (standing (kept l) last))) [] ++ replies help (stands t) bs) ++ last_answer help (rest (stands t) bs)
           ≡ answers_to help last (cond t (l ∷ lines_from [] bs) (lines_from (l ++ (b ∷ [])) bs))
       by true e later more = answered last l bs plain later
       by false e later more =
-          ap (λ (x : List ℕ). saying (standing x last) bs) (kept_more 1024 l (b ∷ []))
+          ap (λ (x : List ℕ). saying help (standing x last) bs) (kept_more 1024 l (b ∷ []))
           ∙ more (plain_more l b plain (eqb-false b 10 e))
+
+  -- what a session says that nothing was fed to
+  pub every_input : (input : List ℕ) → saying help begun input ≡ output help input
+  every_input input = from nobody [] input tt
 
   -- ---- chunk after chunk
 
@@ -102,7 +107,7 @@ module _ (help : List ℕ) where
   fed_with t [] = last_answer help t
   fed_with t (chunk ∷ chunks) = replies help t chunk ++ fed_with (rest t chunk) chunks
 
-  fed_on : (t : Talk) (chunks : List (List ℕ)) → fed_with t chunks ≡ saying t (whole chunks)
+  fed_on : (t : Talk) (chunks : List (List ℕ)) → fed_with t chunks ≡ saying help t (whole chunks)
   fed_on t [] = refl
   fed_on t (chunk ∷ chunks) =
       ap (λ (l : List ℕ). replies help t chunk ++ l) (fed_on (rest t chunk) chunks)

@@ -1,80 +1,60 @@
 -- What is said in a session at the console: the answer to each line, in order, and the channel that `.` stands for from line to line.
 -- Assumes nothing.
-use Rattle.std.specs.Prelude.{ℕ, false, cond, List, [], ◌∷◌, ◌++◌, eqb, length, take}
-use Rattle.machine.specs.declared.Generator.{Generator}
-use Rattle.machine.specs.declared.Mode.TheVariants as modes
+use Rattle.std.specs.Prelude.{ℕ, cond, List, [], ◌∷◌, ◌++◌, eqb, length, take, Option, Some, None}
 use Rattle.call_open.specs.Open.{open_reply}
 use Rattle.call_seek.specs.Seek.{seek_reply}
 use Rattle.call_step.specs.Step.{step_reply}
 use Rattle.places.specs.Places.{reading_reply, place_of_reply, gap_reply}
 use Rattle.texts.specs.Saying.{rest_of, replies_of}
-use Rattle.words.specs.declared.Last.{Last}
+use Rattle.machine.specs.declared.Channel.{Channel}
 use Rattle.commands.specs.Commands.{command_of}
 use Rattle.commands.specs.declared.Command.{Command}
 use Rattle.commands.specs.declared.Command.TheVariants as commands
 use Rattle.answer_lines.specs.Lines.{error_line, handed_back}
 use Rattle.channel_answers.specs.ChannelAnswers.{open_line, seek_line, step_line, window_answered, opened_last, window_last}
 use Rattle.place_answers.specs.PlaceAnswers.{chips_answered, reading_line, place_of_line, gap_line}
-use Rattle.sessions.specs.declared.State.{State}
+use Rattle.sessions.specs.declared.session.Session.{Session}
 
 -- ---- a command
 
--- the answer to it; `help` is what the command of that name is answered
-unfoldable pub answer_of : List ℕ → Command → List ℕ
-answer_of help (commands.Open signal prn) = open_line (open_reply signal prn)
-answer_of help (commands.Seek ch place) = seek_line (seek_reply ch place)
-answer_of help (commands.Step ch) = step_line (step_reply ch)
-answer_of help (commands.Window ch count bytes at) = window_answered ch count bytes at
-answer_of help (commands.Chips signal prn place bytes) = chips_answered signal prn place bytes
-answer_of help (commands.Reading signal place) = reading_line (reading_reply signal place)
-answer_of help (commands.PlaceOf signal epoch chip) = place_of_line (place_of_reply signal epoch chip)
-answer_of help (commands.Gap signal a b) = gap_line (gap_reply signal a b)
-answer_of help commands.Help = help
-answer_of help commands.Error = error_line
+-- the answer to it, or to a line that is none; `help` is what the command of that name is answered
+unfoldable pub answer_of : List ℕ → Option Command → List ℕ
+answer_of help (Some (commands.Open signal prn)) = open_line (open_reply signal prn)
+answer_of help (Some (commands.Seek ch place)) = seek_line (seek_reply ch place)
+answer_of help (Some (commands.Step ch)) = step_line (step_reply ch)
+answer_of help (Some (commands.Window ch count bytes at)) = window_answered ch count bytes at
+answer_of help (Some (commands.Chips signal prn place bytes)) = chips_answered signal prn place bytes
+answer_of help (Some (commands.Reading signal place)) = reading_line (reading_reply signal place)
+answer_of help (Some (commands.PlaceOf signal epoch chip)) = place_of_line (place_of_reply signal epoch chip)
+answer_of help (Some (commands.Gap signal a b)) = gap_line (gap_reply signal a b)
+answer_of help (Some commands.Help) = help
+answer_of help None = error_line
 
 -- what `.` stands for after it
-unfoldable pub last_of : Last → Command → Last
-last_of last (commands.Open signal prn) = opened_last last (open_reply signal prn)
-last_of last (commands.Seek ch place) = handed_back last (seek_reply ch place).channel
-last_of last (commands.Step ch) = handed_back last (step_reply ch).channel
-last_of last (commands.Window ch count bytes at) = window_last last ch count bytes at
-last_of last (commands.Chips signal prn place bytes) = last
-last_of last (commands.Reading signal place) = last
-last_of last (commands.PlaceOf signal epoch chip) = last
-last_of last (commands.Gap signal a b) = last
-last_of last commands.Help = last
-last_of last commands.Error = last
+unfoldable pub last_of : Option Channel → Option Command → Option Channel
+last_of last (Some (commands.Open signal prn)) = opened_last last (open_reply signal prn)
+last_of last (Some (commands.Seek ch place)) = handed_back last (seek_reply ch place).channel
+last_of last (Some (commands.Step ch)) = handed_back last (step_reply ch).channel
+last_of last (Some (commands.Window ch count bytes at)) = window_last last ch count bytes at
+last_of last (Some (commands.Chips signal prn place bytes)) = last
+last_of last (Some (commands.Reading signal place)) = last
+last_of last (Some (commands.PlaceOf signal epoch chip)) = last
+last_of last (Some (commands.Gap signal a b)) = last
+last_of last (Some commands.Help) = last
+last_of last None = last
 
 -- ---- lines
 
 -- before any open was accepted, `.` stands for nothing
-abbrev pub nothing : Generator
-nothing = record { register = 0; phase = 0; cycles = 0; mode = modes.Running }
-
-abbrev pub nobody : Last
-nobody =
-    record {
-      opened = false;
-      channel =
-          record {
-            signal = 0;
-            prn = 0;
-            place = 0;
-            epoch = 0;
-            delay = 0;
-            first = nothing;
-            second = nothing;
-            third = nothing;
-            fourth = nothing;
-          };
-    }
+abbrev pub nobody : Option Channel
+nobody = None
 
 -- the command in a line, which is given without its newline
-abbrev pub command_in : Last → List ℕ → Command
+abbrev pub command_in : Option Channel → List ℕ → Option Command
 command_in last line = command_of last (line ++ (10 ∷ []))
 
 -- the answers to lines, in order
-abbrev pub answers_to : List ℕ → Last → List (List ℕ) → List ℕ
+abbrev pub answers_to : List ℕ → Option Channel → List (List ℕ) → List ℕ
 answers_to help last [] = []
 answers_to help last (line ∷ lines) =
     answer_of help (command_in last line) ++ answers_to help (last_of last (command_in last line)) lines
@@ -93,14 +73,14 @@ output help input = answers_to help nobody (lines_from [] input)
 -- Where a session stands: the bytes kept of the line that has no newline yet, and what `.` stands for.
 pub record Talk : Type 0 where
   pub line : List ℕ
-  pub last : Last
+  pub last : Option Channel
 
 -- So many bytes of a line are kept: a longer line has no newline among them, and is no command.
 abbrev pub kept : List ℕ → List ℕ
 kept line = take 1024 line
 
 -- the command that a newline ends
-abbrev pub asked : Talk → Command
+abbrev pub asked : Talk → Option Command
 asked t = command_of t.last (kept (t.line ++ (10 ∷ [])))
 
 -- one byte more, and what is said to it
@@ -121,6 +101,18 @@ replies help t bs = replies_of next (said help) t bs
 abbrev pub last_answer : List ℕ → Talk → List ℕ
 last_answer help t = cond (eqb (length t.line) 0) [] (answer_of help (asked t))
 
--- where a session stands, given the bytes kept
-abbrev pub talk : List ℕ → State → Talk
-talk line state = record { line = take state.len line; last = state.last }
+-- what is still to be said to an input, the end included, where a session stands
+abbrev pub saying : List ℕ → Talk → List ℕ → List ℕ
+saying help t input = replies help t input ++ last_answer help (rest t input)
+
+-- where a session of the code stands
+abbrev pub talk : Session → Talk
+talk s = record { line = s.line.items; last = s.last }
+
+-- one that nothing was fed to
+abbrev pub begun : Talk
+begun = record { line = []; last = nobody }
+
+-- what it is still to say
+abbrev pub to_say : Session → List ℕ → List ℕ
+to_say s input = saying s.help.now (talk s) input

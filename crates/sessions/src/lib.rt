@@ -2,278 +2,128 @@
 #![tactic(auto)]
 
 ghost use Rattle.std.specs.Prelude.{◌≡◌, [], ◌∷◌, ◌++◌, ◌≤◌, ◌<◌, ◌+◌, length, take};
-ghost use Rattle.replies.specs.Reply.{written};
-ghost use Rattle.texts.specs.Buffers.{Begins};
+ghost use Rattle.arrayvec.specs.ArrayVec.{array_vec_len};
 ghost use Rattle.commands.specs.Commands.{command_of};
-ghost use Rattle.sessions.specs.Sessions.{answer_of, last_of, talk, nothing, nobody, asked, next, said, rest, replies, last_answer, kept};
+ghost use Rattle.sessions.specs.Sessions.{answer_of, last_of, talk, begun, kept, next, said, rest, replies, last_answer, to_say};
 
-use answer_lines::{Answered, ROOM};
+use answer_lines::ROOM;
+use arrayvec::ArrayVec;
 use commands::Command;
-use machine::{Channel, Generator, Mode};
-use words::Last;
+use line_programs::Talk;
 
-// So many bytes has a line of which none has come.
-const EMPTY: usize = 0;
+// So many bytes of answers are written at once.
+pub const OUT: usize = 131_072;
 
-// ---- a line
+mod session;
 
-// The answer to a command. `help` is what the command of that name is answered.
-fn answer_command(
-    command: Command,
-    last: Last,
-    help: &[u8],
-    work: &mut [u8],
-    out: &mut [u8],
-) -> Answered
-    requires help_len_bound { length help.now ≤ 66048 }
-    requires in_bounds { 131072 ≤ length work.old }
-    requires in_bounds_2 { 66048 ≤ length out.old }
-    ensures begins { Begins (answer_of help.now command) out.old out.new result.end }
-    ensures last_value { result.last ≡ last_of last command }
+pub use session::{KEPT, Session};
+
+// One byte more of a line, where more are kept.
+#[tactic(auto, using(std::proofs::lemmas::Grind::common_steps, crate::proofs::Talks::room_left, crate::proofs::Talks::none_left))]
+fn keep(line: &mut ArrayVec<u8, KEPT>, b: u8)
+    ensures { line.new.items ≡ kept (line.old.items ++ b ∷ []) }
 {
-    match command {
-        Command::Open(signal, prn) => {
-            return channel_answers::open(signal, prn, last, out);
-        }
-        Command::Seek(ch, place) => {
-            return channel_answers::seek(ch, place, last, out);
-        }
-        Command::Step(ch) => {
-            return channel_answers::step(ch, last, out);
-        }
-        Command::Window(ch, count, bytes, at) => {
-            return channel_answers::window(ch, count, bytes, at, last, work, out);
-        }
-        Command::Chips(signal, prn, place, bytes) => {
-            return place_answers::chips(signal, prn, place, bytes, last, work, out);
-        }
-        Command::Reading(signal, place) => {
-            return Answered {
-                end: place_answers::reading(signal, place, out),
-                last,
-            };
-        }
-        Command::PlaceOf(signal, epoch, chip) => {
-            return Answered {
-                end: place_answers::place_of(signal, epoch, chip, out),
-                last,
-            };
-        }
-        Command::Gap(signal, a, b) => {
-            return Answered {
-                end: place_answers::gap(signal, a, b, out),
-                last,
-            };
-        }
-        Command::Help => {
-            return Answered {
-                end: texts::put(help, out, 0),
-                last,
-            };
-        }
-        Command::Error => {
-            return answer_lines::error(last, out);
-        }
+    if !line.is_full() {
+        line.push(b);
     }
 }
 
-// The answer to a line, given with its newline.
-fn answer(line: &[u8], last: Last, help: &[u8], work: &mut [u8], out: &mut [u8]) -> Answered
-    requires help_len_bound { length help.now ≤ 66048 }
-    requires in_bounds { 131072 ≤ length work.old }
-    requires in_bounds_2 { 66048 ≤ length out.old }
-    ensures begins { Begins (answer_of help.now (command_of last line.now)) out.old out.new result.end }
-    ensures last_value { result.last ≡ last_of last (command_of last line.now) }
-{
-    let command = commands::command_in(line, last);
-    answer_command(command, last, help, work, out)
-}
-
-// ---- a stream of lines
-
-// So many bytes of a line are kept, its newline among them: more than any command has. A line of any length takes no more memory.
-pub const KEPT: usize = 1024;
-
-// How many bytes are kept of the line that has no newline yet, and what `.` stands for.
-#[derive(Clone, Copy)]
-pub struct State {
-    pub len: usize,
-    pub last: Last,
-}
-
-fn nothing() -> Generator
-    ensures { result ≡ nothing }
-{
-    Generator {
-        register: 0,
-        phase: 0,
-        cycles: 0,
-        mode: Mode::Running,
+impl<'a> Session<'a> {
+    // A session that nothing was fed to: no channel was opened.
+    pub fn new(help: &'a [u8]) -> Session<'a>
+        requires { length help.now ≤ 66048 }
+        ensures help { result.help.now ≡ help.now }
+        ensures talk { talk result ≡ begun }
+    {
+        Session {
+            help,
+            line: ArrayVec::new(),
+            last: None,
+        }
     }
-}
 
-// A session that nothing was fed to: no channel was opened.
-pub fn begun() -> State
-    ensures len_value { result.len ≡ 0 }
-    ensures last_value { result.last ≡ nobody }
-{
-    State {
-        len: 0,
-        last: Last {
-            opened: false,
-            channel: Channel {
-                signal: 0,
-                prn: 0,
-                place: 0,
-                epoch: 0,
-                delay: 0,
-                first: nothing(),
-                second: nothing(),
-                third: nothing(),
-                fourth: nothing(),
-            },
-        },
-    }
-}
-
-// One byte more of a line, or none where no more are kept. Answers how many there are.
-fn push(line: &mut [u8], len: usize, b: u8) -> usize
-    requires len_in_bounds { len ≤ length line.old }
-    requires line_len { length line.old ≡ 1024 }
-    ensures line_after { take result line.new ≡ kept (take len line.old ++ (b ∷ [])) }
-    ensures upper_bound { result ≤ length line.old }
-{
-    if line.len() <= len {
-        return len;
-    }
-    line[len] = b;
-    len + 1
-}
-
-// The newline of a line: its answer, from n on.
-fn end_line(
-    line: &mut [u8],
-    state: State,
-    help: &[u8],
-    work: &mut [u8],
-    out: &mut [u8],
-    n: usize,
-) -> Answered
-    requires len_in_bounds { state.len ≤ length line.old }
-    requires line_len { length line.old ≡ 1024 }
-    requires help_len_bound { length help.now ≤ 66048 }
-    requires in_bounds { 131072 ≤ length work.old }
-    requires n_in_bounds { n + 66048 ≤ length out.old }
-    ensures end_value { result.end ≡ n + length (answer_of help.now (asked (talk line.old state))) }
-    ensures out_after { out.new ≡ written n (answer_of help.now (asked (talk line.old state))) out.old }
-    ensures last_value { result.last ≡ last_of state.last (asked (talk line.old state)) }
-{
-    let len = push(line, state.len, b'\n');
-    let last = state.last;
-    let answered = answer(&line[..len], last, help, work, &mut out[n..]);
-    let after = answered.last;
-    Answered {
-        end: n + answered.end,
-        last: after,
-    }
-}
-
-#[derive(Clone, Copy)]
-pub struct Turned {
-    pub state: State,
-    pub n: usize,
-}
-
-// One byte of input: what is said to it, from n on.
-fn turn(
-    line: &mut [u8],
-    state: State,
-    b: u8,
-    help: &[u8],
-    work: &mut [u8],
-    out: &mut [u8],
-    n: usize,
-) -> Turned
-    requires len_in_bounds { state.len ≤ length line.old }
-    requires line_len { length line.old ≡ 1024 }
-    requires help_len_bound { length help.now ≤ 66048 }
-    requires in_bounds { 131072 ≤ length work.old }
-    requires n_in_bounds { n + 66048 ≤ length out.old }
-    ensures state_after { talk line.new result.state ≡ next (talk line.old state) b }
-    ensures len_in_bounds_2 { result.state.len ≤ length line.old }
-    ensures n_value { result.n ≡ n + length (said help.now (talk line.old state) b) }
-    ensures out_after { out.new ≡ written n (said help.now (talk line.old state) b) out.old }
-{
-    if b == b'\n' {
-        let answered = end_line(line, state, help, work, out, n);
-        let last = answered.last;
-        return Turned {
-            state: State { len: 0, last },
-            n: answered.end,
+    // The answer to the line that is kept.
+    #[tactic(auto, unfolding(crate::specs::Sessions::answer_of, crate::specs::Sessions::last_of))]
+    fn answer<const N: usize>(&mut self, out: &mut ArrayVec<u8, N>)
+        requires { array_vec_len out.old + ROOM ≤ N }
+        ensures said { out.new.items ≡ out.old.items ++ answer_of self.old.help.now (command_of self.old.last self.old.line.items) }
+        ensures last { self.new.last ≡ last_of self.old.last (command_of self.old.last self.old.line.items) }
+        ensures help { self.new.help.now ≡ self.old.help.now }
+    {
+        let Some(command) = commands::command_in(&self.line, self.last) else {
+            return answer_lines::error(out);
         };
-    }
-    let len = push(line, state.len, b);
-    let last = state.last;
-    Turned {
-        state: State { len, last },
-        n,
-    }
-}
-
-// What feeding a chunk leaves: the state, how many bytes of the chunk were taken, and how many of the buffer were written.
-#[derive(Clone, Copy)]
-pub struct Fed {
-    pub state: State,
-    pub used: usize,
-    pub n: usize,
-}
-
-// Takes bytes of a chunk as long as the buffer has space left for any answer, and writes their answers at the buffer's start.
-pub fn feed(
-    line: &mut [u8],
-    start: State,
-    input: &[u8],
-    help: &[u8],
-    work: &mut [u8],
-    out: &mut [u8],
-) -> Fed
-    requires len_in_bounds { start.len ≤ length line.old }
-    requires line_len { length line.old ≡ 1024 }
-    requires help_len_bound { length help.now ≤ 66048 }
-    requires in_bounds { 131072 ≤ length work.old }
-    ensures state_after { talk line.new result.state ≡ rest (talk line.old start) (take result.used input.now) }
-    ensures len_in_bounds_2 { result.state.len ≤ length line.old }
-    ensures begins { Begins (replies help.now (talk line.old start) (take result.used input.now)) out.old out.new result.n }
-    ensures n_in_bounds { (result.n ≤ length out.old) × (result.used ≤ length input.now) }
-    ensures out_len_bound { result.used < length input.now → length out.old < result.n + 66048 }
-{
-    let mut state = start;
-    let mut n = 0;
-    let mut i = 0;
-    while i < input.len() {
-        if out.len() < ROOM + n {
-            return Fed { state, used: i, n };
+        match command {
+            Command::Open(signal, prn) => channel_answers::open(signal, prn, &mut self.last, out),
+            Command::Seek(ch, place) => channel_answers::seek(ch, place, &mut self.last, out),
+            Command::Step(ch) => channel_answers::step(ch, &mut self.last, out),
+            Command::Window(ch, count, bytes, at) => {
+                channel_answers::window(ch, count, bytes, at, &mut self.last, out)
+            }
+            Command::Chips(signal, prn, place, bytes) => {
+                place_answers::chips(signal, prn, place, bytes, out)
+            }
+            Command::Reading(signal, place) => place_answers::reading(signal, place, out),
+            Command::PlaceOf(signal, epoch, chip) => {
+                place_answers::place_of(signal, epoch, chip, out)
+            }
+            Command::Gap(signal, a, b) => place_answers::gap(signal, a, b, out),
+            Command::Help => texts::append(self.help, out),
         }
-        let t = turn(line, state, input[i], help, work, out, n);
-        state = t.state;
-        n = t.n;
-        i += 1;
     }
-    Fed { state, used: i, n }
+
+    // One byte of input.
+    fn turn<const N: usize>(&mut self, b: u8, out: &mut ArrayVec<u8, N>)
+        requires { array_vec_len out.old + ROOM ≤ N }
+        ensures said { out.new.items ≡ out.old.items ++ said self.old.help.now (talk self.old) b }
+        ensures talk { talk self.new ≡ next (talk self.old) b }
+        ensures help { self.new.help.now ≡ self.old.help.now }
+    {
+        keep(&mut self.line, b);
+        if b == b'\n' {
+            self.answer(out);
+            self.line.clear();
+        }
+    }
+
+    // Takes bytes of a chunk as long as there is room for any answer, and appends their answers. Tells how many it took.
+    #[tactic(auto, using(std::proofs::lemmas::Grind::common_steps, texts::proofs::Saying::replies_more, texts::proofs::Saying::rest_more))]
+    pub fn feed<const N: usize>(&mut self, input: &[u8], out: &mut ArrayVec<u8, N>) -> usize
+        ensures said { out.new.items ≡ out.old.items ++ replies self.old.help.now (talk self.old) (take result input.now) }
+        ensures talk { talk self.new ≡ rest (talk self.old) (take result input.now) }
+        ensures help { self.new.help.now ≡ self.old.help.now }
+        ensures used { result ≤ length input.now }
+        ensures full { result < length input.now → N < array_vec_len out.new + ROOM }
+    {
+        for (i, b) in input.iter().enumerate() {
+            if out.remaining_capacity() < ROOM {
+                return i;
+            }
+            self.turn(*b, out);
+        }
+        input.len()
+    }
+
+    // What the end of the input says: nothing, or the answer to a last line that lacks its newline.
+    pub fn finish<const N: usize>(&mut self, out: &mut ArrayVec<u8, N>)
+        requires { array_vec_len out.old + ROOM ≤ N }
+        ensures { out.new.items ≡ out.old.items ++ last_answer self.old.help.now (talk self.old) }
+    {
+        if !self.line.is_empty() {
+            self.turn(b'\n', out);
+        }
+    }
 }
 
-// What the end of the input says: nothing, or the answer to a last line that lacks its newline.
-pub fn finish(line: &mut [u8], state: State, help: &[u8], work: &mut [u8], out: &mut [u8]) -> usize
-    requires len_in_bounds { state.len ≤ length line.old }
-    requires line_len { length line.old ≡ 1024 }
-    requires help_len_bound { length help.now ≤ 66048 }
-    requires in_bounds { 131072 ≤ length work.old }
-    requires in_bounds_2 { 66048 ≤ length out.old }
-    ensures { Begins (last_answer help.now (talk line.old state)) out.old out.new result }
-{
-    if state.len == EMPTY {
-        return 0;
+// By a buffer in which any answer fits, and behind it as many bytes of short ones.
+impl<'a> Talk<OUT> for Session<'a> {
+    ghost answers = { to_say };
+
+    fn feed(&mut self, chunk: &[u8], out: &mut ArrayVec<u8, OUT>) -> usize {
+        Session::feed(self, chunk, out)
     }
-    let answered = end_line(line, state, help, work, out, 0);
-    answered.end
+
+    fn finish(&mut self, out: &mut ArrayVec<u8, OUT>) {
+        Session::finish(self, out);
+    }
 }

@@ -3,19 +3,43 @@
 #![tactic(auto)]
 
 ghost use Rattle.std.specs.Prelude.{◌≡◌, ◌<◌};
-ghost use Rattle.starts.specs.Starts.{Listed, start_g1, start_g2, start_xa, start_x1a, start_x1b, start_x2a, start_x2b};
+ghost use Rattle.starts.specs.Starts.{start_g1, start_g2, start_xa, start_x1a, start_x1b, start_x2a, start_x2b};
 ghost use Rattle.starts.specs.Inner.{Pairs};
+ghost use Rattle.starts.specs.Prns.{TakesPrn};
 ghost use Rattle.starts.specs.Starts.{stages_of, start_cm, start_cl, start_i5, start_q5};
 
+use refusals::Refusal;
+
+mod prns;
 mod tables;
 
+pub use prns::Prn;
+
+// Refusal 2, where the number is not 1 to 37.
+impl TryFrom<u64> for Prn {
+    type Error = Refusal;
+
+    ghost try_from_gives = { TakesPrn };
+
+    fn try_from(number: u64) -> Result<Prn, Refusal> {
+        if (1 <= number) & (number <= 37) {
+            Ok(Prn {
+                number: number as u32,
+            })
+        } else {
+            Err(Refusal::Prn)
+        }
+    }
+}
+
 // Two stages of G2, counted from 1.
-#[derive(Clone, Copy)]
+#[derive(Clone, Copy, Debug, PartialEq, Eq)]
 pub struct Stages {
     pub first: u32,
     pub second: u32,
 }
 
+// Each start is one constant, or the entry of one table: a trait would take an `impl` for each, longer than the function.
 pub fn start_g1() -> u32
     ensures { result ≡ start_g1 }
 {
@@ -58,7 +82,7 @@ pub fn start_x2b() -> u32
     0b0101_0101_0100
 }
 
-// The pairs of stages of eight PRNs, from PRN 8 n + 1 on, in hexadecimal digits as document 01 lists them. They are needed at each C/A chip,
+// The pairs of stages of eight PRNs, from PRN 8 n + 1 on, in hexadecimal digits as IS-GPS-200 lists them. They are needed at each C/A chip,
 // and numbers, unlike a table, cost nothing where they are named.
 fn pairs(n: u32) -> u64
     requires { n < 5 }
@@ -74,11 +98,10 @@ fn pairs(n: u32) -> u64
 }
 
 // The two stages of G2 that the C/A code of a PRN adds to G1.
-pub fn stages_ca(prn: u32) -> Stages
-    requires { Listed 37 prn }
-    ensures { result ≡ stages_of prn }
+pub fn stages_ca(prn: Prn) -> Stages
+    ensures { result ≡ stages_of prn.number }
 {
-    let n = prn - 1;
+    let n = prn.number - 1;
     let pair = (pairs(n / 8) >> (56 - n % 8 * 8)) % 256;
     Stages {
         first: (pair / 16) as u32,
@@ -86,34 +109,34 @@ pub fn stages_ca(prn: u32) -> Stages
     }
 }
 
-// The start of L2 CM for a PRN.
-pub fn start_cm(prn: u32) -> u32
-    requires { Listed 37 prn }
-    ensures { result ≡ start_cm prn }
+// The start of L2 CM for a PRN. Apart from the three that follow: the table is all that each says, and a table is named once.
+#[tactic(auto, unfolding(crate::specs::Starts::start_cm, crate::specs::Starts::starts_cm))]
+pub fn start_cm(prn: Prn) -> u32
+    ensures { result ≡ start_cm prn.number }
 {
-    tables::CM[prn as usize - 1]
+    tables::CM[prn.number as usize - 1]
 }
 
 // The start of L2 CL for a PRN.
-pub fn start_cl(prn: u32) -> u32
-    requires { Listed 37 prn }
-    ensures { result ≡ start_cl prn }
+#[tactic(auto, unfolding(crate::specs::Starts::start_cl, crate::specs::Starts::starts_cl))]
+pub fn start_cl(prn: Prn) -> u32
+    ensures { result ≡ start_cl prn.number }
 {
-    tables::CL[prn as usize - 1]
+    tables::CL[prn.number as usize - 1]
 }
 
 // The start of XB of I5 for a PRN.
-pub fn start_i5(prn: u32) -> u32
-    requires { Listed 37 prn }
-    ensures { result ≡ start_i5 prn }
+#[tactic(auto, using(crate::proofs::PrintedVectors::vector_i5), unfolding(crate::proofs::PrintedVectors::turned, crate::proofs::PrintedVectors::vectors_i5))]
+pub fn start_i5(prn: Prn) -> u32
+    ensures { result ≡ start_i5 prn.number }
 {
-    tables::I5[prn as usize - 1]
+    tables::I5[prn.number as usize - 1]
 }
 
 // The start of XB of Q5 for a PRN.
-pub fn start_q5(prn: u32) -> u32
-    requires { Listed 37 prn }
-    ensures { result ≡ start_q5 prn }
+#[tactic(auto, using(crate::proofs::PrintedVectors::vector_q5), unfolding(crate::proofs::PrintedVectors::turned, crate::proofs::PrintedVectors::vectors_q5))]
+pub fn start_q5(prn: Prn) -> u32
+    ensures { result ≡ start_q5 prn.number }
 {
-    tables::Q5[prn as usize - 1]
+    tables::Q5[prn.number as usize - 1]
 }

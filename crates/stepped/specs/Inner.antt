@@ -1,6 +1,6 @@
--- A channel of a signal that is told, for the contracts of inner functions.
+-- A channel of a signal that is told, and runs of steps, for the contracts of inner functions.
 -- Assumes nothing.
-use Rattle.std.specs.Prelude.{ℕ, ◌≡◌}
+use Rattle.std.specs.Prelude.{ℕ, ◌≡◌, ◌<◌, ◌≤◌, Option, MatchOption, ⊤}
 use Rattle.machine.specs.Signals.{Signal, signal_of}
 use Rattle.machine.specs.Ranged.{RangedAs, Ranged}
 use Rattle.machine.specs.declared.Channel.{Channel}
@@ -10,3 +10,7 @@ pub record Of (s : ℕ → Signal) (ch : Channel) : Type 0 where
   pub ranged : Ranged ch
   pub named : signal_of ch.signal ch.prn ≡ s ch.prn
   pub fields : RangedAs (s ch.prn) ch
+
+-- no run, or one of at least one step and at most so many
+abbrev pub RunAtMost : ℕ → (ℕ → Type 0) → Option ℕ → Type 0
+RunAtMost most is_run r = MatchOption r ⊤ (λ n. (0 < n) × (n ≤ most) × is_run n)

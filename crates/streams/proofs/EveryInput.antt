@@ -1,20 +1,18 @@
 -- EVERY INPUT of the line program, and its whole output.
 --     in_order      the output is the replies of the input's lines, in order, and `refused 9` for what follows the last newline, if that has a byte
 --     saying_more   what is said to a chunk and then to the rest of the input
+--     said_of       the same of the part of a chunk that a stream took
 --     any_chunks    it is the same however the input is cut: what the promises of `feed` and `finish` say of chunk after chunk, put together
 -- Assumes nothing.
 use Prim.Native.Nat.{ℕ}
 use mathlib.Core.List.{List, [], ◌∷◌, ◌++◌, append_assoc, append-nil}
 use mathlib.Core.Path.{◌≡◌, refl, sym, ap, ap₂, ◌∙◌}
+use lib.ListN.{take, drop, take-append-drop}
 use Rattle.texts.specs.Saying.{whole}
 use Rattle.lines.specs.Lines.{line_reply}
-use Rattle.streams.specs.Stream.{next, said, rest, replies, last_reply, answers, kept}
+use Rattle.streams.specs.Stream.{next, said, rest, replies, last_reply, saying, answers, kept}
 use Rattle.streams.proofs.Streams.{other_next, other_said, kept_said, kept_next, kept_twice}
 use Rattle.texts.proofs.Saying.{Plain, replies-append, rest-append}
-
--- what is still to be said, where a line has begun with some bytes
-abbrev pub saying : List ℕ → List ℕ → List ℕ
-saying line input = replies line input ++ last_reply (rest line input)
 
 -- ---- line after line
 
@@ -84,6 +82,15 @@ saying_more line chunk input =
     ap (λ (l : List ℕ). replies line chunk ++ l) (kept_saying (rest line chunk) input)
     ∙ sym (append_assoc (replies line chunk) (replies (rest line chunk) input) (last_reply (rest (rest line chunk) input)))
     ∙ ap₂ (λ (x y : List ℕ). x ++ last_reply y) (sym (replies-append next said line chunk input)) (sym (rest-append next line chunk input))
+
+-- the same where a stream took so many bytes of the chunk, and said that behind nothing
+pub said_of : (line chunk text after : List ℕ) (used : ℕ) → text ≡ replies line (take used chunk) → after ≡ kept (rest line (take used chunk)) → (more : List ℕ)
+    → saying line (chunk ++ more) ≡ text ++ saying after (drop used chunk ++ more)
+said_of line chunk text after used wrote held more =
+    ap (λ (l : List ℕ). saying line (l ++ more)) (sym (take-append-drop used chunk))
+    ∙ ap (saying line) (append_assoc (take used chunk) (drop used chunk) more)
+    ∙ sym (saying_more line (take used chunk) (drop used chunk ++ more))
+    ∙ ap₂ (λ (x y : List ℕ). x ++ saying y (drop used chunk ++ more)) (sym wrote) (sym held)
 
 fed_on : (line : List ℕ) (chunks : List (List ℕ)) → fed_with (kept line) chunks ≡ saying line (whole chunks)
 fed_on line [] = kept_last line

@@ -4,7 +4,6 @@ use Rattle.std.specs.Prelude.{ℕ, cond, List, [], ◌∷◌, ◌++◌, eqb, tak
 use Rattle.texts.specs.Texts.{refused_line}
 use Rattle.texts.specs.Saying.{rest_of, replies_of}
 use Rattle.lines.specs.Lines.{line_reply}
-use Rattle.streams.specs.declared.Pending.{Pending}
 
 -- the bytes of the line that has no newline yet, after one byte more
 abbrev pub next : List ℕ → ℕ → List ℕ
@@ -26,15 +25,15 @@ abbrev pub last_reply : List ℕ → List ℕ
 last_reply [] = []
 last_reply (b ∷ bs) = refused_line 9
 
+-- what is still to be said, where a line has begun with some bytes
+abbrev pub saying : List ℕ → List ℕ → List ℕ
+saying line input = replies line input ++ last_reply (rest line input)
+
 -- the whole output for a whole input
 abbrev pub answers : List ℕ → List ℕ
 answers input = replies [] input ++ last_reply (rest [] input)
 
--- ---- what is kept of an unended line: its first 56 bytes, one more than the longest well-formed line has
+-- ---- what a stream keeps of an unended line: its first 56 bytes, one more than the longest well-formed line has
 
 abbrev pub kept : List ℕ → List ℕ
 kept line = take 56 line
-
--- the bytes that a state holds
-abbrev pub held : Pending → List ℕ
-held s = take s.len s.bytes

@@ -1,11 +1,15 @@
 // A stream of lines, fed in chunks of any size, and its replies.
 #![tactic(auto)]
 
-ghost use Rattle.std.specs.Prelude.{◌≡◌, [], ◌∷◌, ◌++◌, ◌≤◌, ◌<◌, ◌+◌, length, take};
-ghost use Rattle.replies.specs.Reply.{written};
-ghost use Rattle.texts.specs.Buffers.{Begins};
+ghost use Rattle.std.specs.Prelude.{◌≡◌, ℕ, List, [], ◌∷◌, ◌++◌, ◌≤◌, ◌<◌, ◌+◌, length, take, drop};
+ghost use Rattle.arrayvec.specs.ArrayVec.{array_vec_len};
 ghost use Rattle.lines.specs.Lines.{line_reply};
-ghost use Rattle.streams.specs.Stream.{next, said, rest, replies, last_reply, kept, held};
+ghost use Rattle.streams.specs.Stream.{next, said, rest, replies, last_reply, saying, kept};
+
+use arrayvec::ArrayVec;
+use line_programs::{CHUNK, Talk};
+use refusals::Refusal;
+use std::marker::Model;
 
 // So many bytes of a line are kept, one more than the longest well-formed line has: four numbers of 13 digits and three spaces.
 const KEPT: usize = 56;
@@ -13,130 +17,105 @@ const KEPT: usize = 56;
 // What ends a line.
 const NEWLINE: u8 = b'\n';
 
-// So many bytes has a line of which none has come.
-const EMPTY: usize = 0;
-
-// Every reply fits in so many bytes.
+// Every reply fits in so many bytes. A clause asks for them, as for the `ROOM` of answer_lines and for the reason there.
 const ROOM: usize = 128;
 
-// The line that has no newline yet, or as much of it as is kept: a line of any length takes no more memory.
-#[derive(Clone, Copy)]
-pub struct Pending {
-    pub bytes: [u8; KEPT],
-    pub len: usize,
+// A stream has the line that has no newline yet, or as much of it as is kept: a line of any length takes no more memory. A clause sees those bytes.
+#[derive(Drop)]
+pub struct Stream {
+    line: ArrayVec<u8, KEPT>,
 }
 
-// A stream that nothing was fed to.
-pub fn empty() -> Pending
-    ensures { held result ≡ [] }
-{
-    Pending {
-        bytes: [0u8; KEPT],
-        len: 0,
-    }
+impl Model for Stream {
+    ghost use Rattle.std.specs.Prelude.{ℕ, List, ◌≤◌, length};
+
+    ghost Value = { List ℕ };
+
+    ghost view = { λ s. s.line.items };
+
+    ghost invariant = { λ s. length s.line.items ≤ 56 };
 }
 
-// One byte more, or none where 56 are kept.
-fn push(s: Pending, b: u8) -> Pending
-    ensures { held result ≡ kept (held s ++ (b ∷ [])) }
-{
-    let at = s.len;
-    if KEPT <= at {
-        return s;
-    }
-    let mut t = s;
-    t.bytes[at] = b;
-    t.len = at + 1;
-    t
-}
-
-fn held_length(s: Pending) -> usize
-    ensures { result ≡ length (held s) }
-{
-    if s.len < KEPT { s.len } else { KEPT }
-}
-
-// The newline of a line: its reply from n on.
-fn ended(s: Pending, out: &mut [u8], n: usize) -> usize
-    requires { n + 128 ≤ length out.old }
-    ensures value { result ≡ n + length (line_reply (held s)) }
-    ensures out_after { out.new ≡ written n (line_reply (held s)) out.old }
-{
-    let bytes = s.bytes;
-    let k = lines::reply(&bytes[..held_length(s)], &mut out[n..]);
-    n + k
-}
-
-#[derive(Clone, Copy)]
-struct Turned {
-    state: Pending,
-    n: usize,
-}
-
-// One byte of input: what it says, from n on.
-fn turn(s: Pending, b: u8, out: &mut [u8], n: usize) -> Turned
-    requires { n + 128 ≤ length out.old }
-    ensures state_value { held result.state ≡ kept (next (held s) b) }
-    ensures n_value { result.n ≡ n + length (said (held s) b) }
-    ensures out_after { out.new ≡ written n (said (held s) b) out.old }
-{
-    if b == NEWLINE {
-        let end = ended(s, out, n);
-        return Turned {
-            state: empty(),
-            n: end,
-        };
-    }
-    Turned {
-        state: push(s, b),
-        n: n,
-    }
-}
-
-// What feeding a chunk leaves: the state, how many bytes of the chunk were taken, and how many of the buffer were written.
-#[derive(Clone, Copy)]
-pub struct Fed {
-    pub state: Pending,
-    pub used: usize,
-    pub n: usize,
-}
-
-// Takes bytes of a chunk as long as the buffer has 128 bytes left, in which every reply fits, and writes their replies at the buffer's start.
-pub fn feed(s: Pending, input: &[u8], out: &mut [u8]) -> Fed
-    ensures state_value { held result.state ≡ kept (rest (held s) (take result.used input.now)) }
-    ensures begins { Begins (replies (held s) (take result.used input.now)) out.old out.new result.n }
-    ensures n_in_bounds { (result.n ≤ length out.old) × (result.used ≤ length input.now) }
-    ensures out_len_bound { result.used < length input.now → length out.old < result.n + 128 }
-{
-    let mut state = s;
-    let mut n = 0;
-    let mut i = 0;
-    while i < input.len() {
-        if out.len() < ROOM + n {
-            return Fed {
-                state: state,
-                used: i,
-                n: n,
-            };
+impl Stream {
+    // A stream that nothing was fed to.
+    pub fn new() -> Stream
+        ensures { result ≡ [] }
+    {
+        Stream {
+            line: ArrayVec::new(),
         }
-        let t = turn(state, input[i], out, n);
-        state = t.state;
-        n = t.n;
-        i += 1;
     }
-    Fed {
-        state: state,
-        used: i,
-        n: n,
+
+    // One byte more, or none where 56 are kept.
+    fn keep(&mut self, b: u8)
+        ensures { self.new ≡ kept (self.old ++ b ∷ []) }
+    {
+        if !self.line.is_full() {
+            self.line.push(b);
+        }
+    }
+
+    // The reply to the line, behind what stands there, and a line anew.
+    fn end_line<const N: usize>(&mut self, out: &mut ArrayVec<u8, N>)
+        requires room { array_vec_len out.old + 128 ≤ N }
+        ensures line { self.new ≡ [] }
+        ensures reply { out.new.items ≡ out.old.items ++ line_reply self.old }
+    {
+        lines::reply(self.line.as_slice(), out);
+        self.line.clear();
+    }
+
+    // One byte of input: what it says, behind what stands there.
+    fn turn<const N: usize>(&mut self, b: u8, out: &mut ArrayVec<u8, N>)
+        requires room { array_vec_len out.old + 128 ≤ N }
+        ensures line { self.new ≡ kept (next self.old b) }
+        ensures said { out.new.items ≡ out.old.items ++ said self.old b }
+    {
+        if b == NEWLINE {
+            self.end_line(out);
+        } else {
+            self.keep(b);
+        }
+    }
+
+    // Takes bytes of a chunk as long as there is room for 128 bytes, in which every reply fits, and puts their replies behind what stands there. Answers how
+    // many bytes it took.
+    pub fn feed<const N: usize>(&mut self, input: &[u8], out: &mut ArrayVec<u8, N>) -> usize
+        ensures line { self.new ≡ kept (rest self.old (take result input.now)) }
+        ensures said { out.new.items ≡ out.old.items ++ replies self.old (take result input.now) }
+        ensures used { result ≤ length input.now }
+        ensures full { result < length input.now → N < array_vec_len out.new + 128 }
+    {
+        let _ = &self.line;
+        for (i, b) in input.iter().enumerate() {
+            if out.remaining_capacity() < ROOM {
+                return i;
+            }
+            self.turn(*b, out);
+        }
+        input.len()
+    }
+
+    // What the end of the input says: nothing, or the refusal of a line that lacks its newline.
+    pub fn finish<const N: usize>(&self, out: &mut ArrayVec<u8, N>)
+        requires room { array_vec_len out.old + 10 ≤ N }
+        ensures { out.new.items ≡ out.old.items ++ last_reply self.now }
+    {
+        if !self.line.is_empty() {
+            texts::append_refused(Refusal::Line, out);
+        }
     }
 }
 
-// What the end of the input says: nothing, or the refusal of a line that lacks its newline.
-pub fn finish(s: Pending, out: &mut [u8; 10]) -> usize
-    ensures { Begins (last_reply (held s)) out.old out.new result }
-{
-    if s.len == EMPTY {
-        return 0;
+// By a buffer of a chunk's length: it has room for a reply, and behind it for many more.
+impl Talk<CHUNK> for Stream {
+    ghost answers = { saying };
+
+    fn feed(&mut self, chunk: &[u8], out: &mut ArrayVec<u8, CHUNK>) -> usize {
+        Stream::feed(self, chunk, out)
     }
-    texts::refused(9, out)
+
+    fn finish(&mut self, out: &mut ArrayVec<u8, CHUNK>) {
+        Stream::finish(self, out);
+    }
 }

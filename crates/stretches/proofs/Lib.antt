@@ -3,4 +3,3 @@ pub mod Arrivals
 pub mod LawOfRuns
 pub mod Along
 pub mod Tables
-pub mod Lesser

@@ -14,19 +14,11 @@ pub const SHORT_RUN: usize = 8;
 // The single steps between two runs: to the event, and past it.
 pub const AT_AN_EVENT: usize = 2;
 
-// The lesser of two.
-pub fn least(a: usize, b: usize) -> usize
-    ensures { (result ≤ a) × ((result ≤ b) × (result < a → result ≡ b)) }
-{
-    if a < b { a } else { b }
-}
-
 // The steps that a stretch has from here on, given the last phase of the generator's cycle.
 pub fn stretch_of(g: Generator, last: u32) -> u32
     ensures { result ≡ stretch last g }
 {
-    let mode = g.mode;
-    match mode {
+    match g.mode {
         Mode::Running => {
             if g.phase < last {
                 last - 1 - g.phase
@@ -38,12 +30,14 @@ pub fn stretch_of(g: Generator, last: u32) -> u32
     }
 }
 
-// Whether a generator's register is the one of its phase. The table begins `from` chips before phase 0.
+// Whether a generator's register is the one of its phase. The table begins `from` chips before phase 0. A table, where it begins and its width are three
+// arguments: the tables are arrays of several lengths, and a struct that borrows one would be made at each call. The two facts of the width are found by
+// computing, for each call gives it as a number.
 pub fn fits(g: Generator, sequence: &[u64], from: usize, width: u32) -> bool
-    requires from_bound { from ≤ 65536 }
+    requires table_begins_near { from ≤ 65536 }
     requires phase_in_bounds { (from + g.phase) / 64 + 1 < length sequence.now }
-    requires le_width { 1 ≤ width }
-    requires width_bound { width ≤ 32 }
+    requires some_stage { 1 ≤ width }
+    requires stages_of_register { width ≤ 32 }
     ensures { result ≡ eqb (word_in sequence.now (from + g.phase) / 2 ^ (64 - width)) g.register }
 {
     sequences::register_at(sequence, from + g.phase as usize, width) == g.register
@@ -52,12 +46,11 @@ pub fn fits(g: Generator, sequence: &[u64], from: usize, width: u32) -> bool
 // The 64 chips that stage k gives from n steps on in a stretch.
 pub fn word_of(g: Generator, k: u32, sequence: &[u64], from: usize, n: usize) -> u64
     requires within { Within g from n (length sequence.now) }
-    requires le_k { 1 ≤ k }
-    requires k_bound { k ≤ 32 }
+    requires some_stage { 1 ≤ k }
+    requires stages_of_register { k ≤ 32 }
     ensures { result ≡ word_at k g sequence.now from n }
 {
-    let mode = g.mode;
-    match mode {
+    match g.mode {
         Mode::Running => sequences::word_at(sequence, from + g.phase as usize + n),
         Mode::Held(_) => ((g.register >> (k - 1)) % 2) as u64 * 0xffff_ffff_ffff_ffff,
     }
@@ -66,25 +59,21 @@ pub fn word_of(g: Generator, k: u32, sequence: &[u64], from: usize, n: usize) ->
 // The generator n steps on in a stretch.
 pub fn after(g: Generator, sequence: &[u64], from: usize, width: u32, n: usize) -> Generator
     requires within { Within g from n (length sequence.now) }
-    requires le_width { 1 ≤ width }
-    requires width_bound { width ≤ 32 }
-    requires n_bound { n ≤ 65536 }
-    requires phase_bound { g.phase < 65536 }
+    requires some_stage { 1 ≤ width }
+    requires stages_of_register { width ≤ 32 }
+    requires one_call { n ≤ 65536 }
+    requires phase_small { g.phase < 65536 }
     ensures { result ≡ ahead (word_in sequence.now (from + g.phase + n) / 2 ^ (64 - width)) n g }
 {
-    let mode = g.mode;
-    match mode {
+    match g.mode {
         Mode::Running => Generator {
             register: sequences::register_at(sequence, from + g.phase as usize + n, width),
             phase: g.phase + n as u32,
-            cycles: g.cycles,
-            mode: Mode::Running,
+            ..g
         },
         Mode::Held(h) => Generator {
-            register: g.register,
-            phase: g.phase,
-            cycles: g.cycles,
             mode: Mode::Held(h - n as u32),
+            ..g
         },
     }
 }

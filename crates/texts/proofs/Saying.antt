@@ -1,16 +1,15 @@
 -- A program that takes bytes one after the other.
 --     Plain, plain-take                        bytes without a newline, and the first k of them
---     full, one_more, held_again, kept_more    a line of which the first k bytes are kept
+--     kept_more                                a line of which the first k bytes are kept
 --     replies-append, rest-append              what is said to two inputs, one after the other
 --     replies_more, rest_more                  to one byte more
 -- Assumes nothing.
-use Prim.Native.Nat.{ℕ, zero, suc, ◌+◌, ◌≤◌, ◌<◌}
+use Prim.Native.Nat.{ℕ, zero, suc, ◌+◌, ◌<◌}
 use mathlib.Core.List.{List, [], ◌∷◌, ◌++◌, append_assoc, append-nil}
 use mathlib.Core.Path.{◌≡◌, refl, sym, ap, ◌∙◌}
 use native.Mathlib.Numerals.{add-one}
-use native.Mathlib.Omega.{arith}
-use lib.ListN.{length, take, get_or, set, length-append}
-use lib.Seq.{take_all, take-suc-set, take-append-le, length-take-le, take-suc}
+use lib.ListN.{length, take, get_or}
+use lib.Seq.{take-suc}
 use Rattle.texts.specs.Saying.{rest_of, replies_of}
 
 -- no byte is a newline
@@ -24,26 +23,6 @@ plain-take (suc k) [] p = tt
 plain-take (suc k) (b ∷ l) p = (p.0, plain-take k l p.1)
 
 -- ---- the bytes kept
-
--- k are kept, and one more is not
-pub full : (k : ℕ) (l : List ℕ) (n b : ℕ) → length l ≡ k → k ≤ n → take n l ≡ take k (take n l ++ (b ∷ []))
-full k l n b long h =
-    let all : take n l ≡ l = take_all n l (omega (arith, long, h)) in
-    rw (all, take-append-le k l (b ∷ []) (omega (arith, long))) (sym (take_all k l (omega (arith, long))))
-
--- fewer are, and one more is kept
-pub one_more : (k : ℕ) (l : List ℕ) (n b : ℕ) → length l ≡ k → n < k → take (n + 1) (set l n b) ≡ take k (take n l ++ (b ∷ []))
-one_more k l n b long h =
-    let short : length (take n l ++ (b ∷ [])) ≤ k
-    = rw (length-append (take n l) (b ∷ []), length-take-le n l (omega (arith, long, h))) (omega (arith, h))
-    in
-    rw (add-one n, take-suc-set l n b (omega (arith, long, h))) (sym (take_all k (take n l ++ (b ∷ [])) short))
-
--- as many bytes as a state holds are those that it holds
-pub held_again : (n : ℕ) (l : List ℕ) → take (length (take n l)) l ≡ take n l
-held_again zero l = refl
-held_again (suc n) [] = refl
-held_again (suc n) (x ∷ l) = ap (λ (m : List ℕ). x ∷ m) (held_again n l)
 
 pub kept_more : (n : ℕ) (x y : List ℕ) → take n (take n x ++ y) ≡ take n (x ++ y)
 kept_more zero x y = refl

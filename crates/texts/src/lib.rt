@@ -1,21 +1,13 @@
-// Text written to a buffer: bytes, chips, a refusal. Each public function answers where it ended.
+// Text: bytes as they are, chips, a refusal. It is put behind what stands in a vector of fixed room.
 #![tactic(auto)]
 
-ghost use Rattle.std.specs.Prelude.{◌≡◌, map, ◌≤◌, ◌+◌, length};
-ghost use Rattle.replies.specs.Reply.{written};
+ghost use Rattle.std.specs.Prelude.{◌≡◌, map, ◌≤◌, ◌+◌, ◌++◌, length};
+ghost use Rattle.arrayvec.specs.ArrayVec.{array_vec_len};
+ghost use Rattle.refusals.specs.Refusal.{number_of};
 ghost use Rattle.texts.specs.Texts.{refused_line, chip_digit};
-ghost use Rattle.texts.specs.Buffers.{Begins};
 
-// Bytes as they are, from `at` on.
-pub fn put(src: &[u8], out: &mut [u8], at: usize) -> usize
-    requires { at + length src.now ≤ length out.old }
-    ensures value { result ≡ at + length src.now }
-    ensures out_after { out.new ≡ written at src.now out.old }
-{
-    let end = at + src.len();
-    out[at..end].copy_from_slice(src);
-    end
-}
+use arrayvec::ArrayVec;
+use refusals::Refusal;
 
 fn chip_digit(chip: u8) -> u8
     ensures { result ≡ chip_digit chip }
@@ -23,27 +15,31 @@ fn chip_digit(chip: u8) -> u8
     if chip == 0 { b'0' } else { b'1' }
 }
 
-// Chips, a digit for each, from `at` on.
-pub fn put_chips(chips: &[u8], out: &mut [u8], at: usize) -> usize
-    requires { at + length chips.now ≤ length out.old }
-    ensures value { result ≡ at + length (map chip_digit chips.now) }
-    ensures out_after { out.new ≡ written at (map chip_digit chips.now) out.old }
+// Text behind what stands there.
+pub fn append<const N: usize>(text: &[u8], out: &mut ArrayVec<u8, N>)
+    requires room { array_vec_len out.old + length text.now ≤ N }
+    ensures { out.new.items ≡ out.old.items ++ text.now }
 {
-    let mut i = 0;
-    while i < chips.len() {
-        out[at + i] = chip_digit(chips[i]);
-        i += 1;
-    }
-    at + i
+    // It can't fail: the clause asks for the room.
+    let _fits = out.try_extend_from_slice(text);
 }
 
-// The reply `refused N`, at the start of the buffer.
-pub fn refused(n: u32, out: &mut [u8]) -> usize
-    requires n_bound { n ≤ 9 }
-    requires in_bounds { 10 ≤ length out.old }
-    ensures { Begins (refused_line n) out.old out.new result }
+// Chips behind what stands there, a digit for each.
+pub fn append_chips<const N: usize>(chips: &[u8], out: &mut ArrayVec<u8, N>)
+    requires room { array_vec_len out.old + length chips.now ≤ N }
+    ensures { out.new.items ≡ out.old.items ++ map chip_digit chips.now }
 {
-    let mut text = *b"refused N\n";
-    text[8] = (48 + n) as u8;
-    put(&text, out, 0)
+    for chip in chips {
+        out.push(chip_digit(*chip));
+    }
+}
+
+// The reply `refused N` behind what stands there.
+pub fn append_refused<const N: usize>(refusal: Refusal, out: &mut ArrayVec<u8, N>)
+    requires room { array_vec_len out.old + 10 ≤ N }
+    ensures { out.new.items ≡ out.old.items ++ refused_line (number_of refusal) }
+{
+    append(b"refused ", out);
+    out.push(b'0' + refusal.number() as u8);
+    out.push(b'\n');
 }

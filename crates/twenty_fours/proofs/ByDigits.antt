@@ -1,5 +1,4 @@
 -- Twenty-four chips of an L2 register, by the digits of the register.
---     has_96        the table has 96 entries
 --     looked_up      the code's way: the lowest digits looked up, and the rest moved down
 --     by_digits     what a register gives is the sum of what its digits give, so it is what is looked up
 --     after-lt      the register after twenty-four chips is within its width
@@ -13,7 +12,7 @@ use native.Mathlib.Nat.{mod-lt, zero-add, mul-one, div-one, lt_of_lt_of_le}
 use native.Mathlib.Omega.{arith}
 use lib.Bits.{bit_xor, xor_block, xor_shifted, xor_zero_r, shifted_half, shifted_even}
 use lib.Dec.{lit<, lit≤}
-use lib.ListN.{length, get_or}
+use lib.ListN.{get_or}
 use lib.Pow.{pow_pos, pow_mono, high, low, split, mod-pow-add, shl_lt, shl_exact, shl-shr, shr-shr}
 use Rattle.registers.specs.Register.{stage, shift_l2}
 use Rattle.registers.specs.Times.{times}
@@ -23,7 +22,7 @@ use Rattle.registers.proofs.Shifts.{l2, stage-lt, stage_linear, times_keeps}
 use Rattle.sequences.specs.Sequences.{given}
 use Rattle.sequences.proofs.Words.{given-lt, given_first, given_digit}
 use Rattle.digits.specs.Digits.{digit}
-use Rattle.digits.proofs.Rows.{row-length, row_at}
+use Rattle.digits.proofs.Rows.{row_at}
 use Rattle.twenty_fours.specs.TwentyFours.{twenty_four_of, entry_of, table_l2}
 
 -- ---- what is given is linear
@@ -92,10 +91,6 @@ digits_off r j k h =
     ∙ sum (x * 2 ^ k) y (lt_of_lt_of_le (shl_lt j k x_lt) (pow_mono h)) (lt_of_lt_of_le y-lt (pow_mono low-in))
 
 -- ---- the table
-
-pub has_96 : (t : List ℕ) → t ≡ table_l2 → length t ≡ 96
-unfolding table_l2
-has_96 t e = ap length e ∙ row-length entry_of 96
 
 entry_is : (m k i : ℕ) → i ≡ m * 16 + k → m < 6 → k < 16 → get_or table_l2 i 0 ≡ twenty_four_of (k * 2 ^ (4 * m))
 unfolding table_l2

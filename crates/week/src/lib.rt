@@ -2,14 +2,18 @@
 // that the stepped machine stands there.
 #![tactic(auto)]
 
-ghost use Rattle.std.specs.Prelude.{◌≡◌, ◌+◌, ◌*◌, ◌<◌, ◌^◌};
+ghost use Rattle.std.specs.Prelude.{◌≡◌, ◌+◌, ◌*◌, ◌<◌, ◌^◌, IsTrue, refl};
 ghost use Rattle.machine.specs.Signals.{week_l5};
 ghost use Rattle.week.specs.Week.{unheld, held, course_g, course_x1a, course_x1b, course_x2a, course_x2b, course_cm, course_cl, course_xa, course_xb};
+ghost use Rattle.week.specs.declared.Course.{Course};
+ghost use Rattle.week.specs.Coursed.{fitting};
 
+use generators::{Cl, Cm, Code};
 use machine::Mode;
+use registers::{G1, G2, X1A, X1B, X2A, X2B, XA, XB};
 
 // How a generator goes through the week, in chips.
-#[derive(Clone, Copy)]
+#[derive(Clone, Copy, Debug, PartialEq, Eq)]
 pub struct Course {
     // A whole cycle.
     pub cycle: u64,
@@ -24,21 +28,20 @@ pub struct Course {
 }
 
 // A generator without its register.
-#[derive(Clone, Copy)]
+#[derive(Clone, Copy, Debug, PartialEq, Eq)]
 pub struct Standing {
     pub phase: u32,
     pub cycles: u32,
     pub mode: Mode,
 }
 
-// Never held: all its cycles, time and again, given the last phase of a cycle and the highest number of cycles finished.
-fn unheld_course(week: u64, last: u32, highest: u32) -> Course
-    requires last_bound { last < 2 ^ 20 }
-    requires highest_bound { highest < 2 ^ 12 }
-    ensures { result ≡ unheld week (last + 1) ((highest + 1) * (last + 1)) }
+// Never held: all its cycles, time and again. The three plans are three formulas, each written once for every type.
+fn unheld_course<C: Code>(week: u64) -> Course
+    requires { C.kind.highest < 2 ^ 12 }
+    ensures { result ≡ unheld week (C.kind.last 0 + 1) ((C.kind.highest + 1) * (C.kind.last 0 + 1)) }
 {
-    let cycle = last as u64 + 1;
-    let period = (highest as u64 + 1) * cycle;
+    let cycle = C::last(0) as u64 + 1;
+    let period = (C::highest() as u64 + 1) * cycle;
     Course {
         cycle,
         runs: period,
@@ -49,13 +52,12 @@ fn unheld_course(week: u64, last: u32, highest: u32) -> Course
 }
 
 // Held at the last chip of its last cycle, with so many chips still to repeat.
-fn held_course(stop: u64, last: u32, highest: u32, chips: u32) -> Course
-    requires last_bound { last < 2 ^ 12 }
-    requires highest_bound { highest < 2 ^ 12 }
-    ensures { result ≡ held stop (last + 1) (highest + 1) chips }
+fn held_course<C: Code>(stop: u64, chips: u32) -> Course
+    requires { C.kind.highest < 2 ^ 12 }
+    ensures { result ≡ held stop (C.kind.last 0 + 1) (C.kind.highest + 1) chips }
 {
-    let cycle = last as u64 + 1;
-    let cycles = (highest as u64 + 1) * cycle;
+    let cycle = C::last(0) as u64 + 1;
+    let cycles = (C::highest() as u64 + 1) * cycle;
     Course {
         cycle,
         runs: cycles - 1,
@@ -65,14 +67,12 @@ fn held_course(stop: u64, last: u32, highest: u32, chips: u32) -> Course
     }
 }
 
-// Of two cycles, the second cut short, given their last phases.
-fn cut_course(last: u32, last_cut: u32) -> Course
-    requires last_bound { last < 2 ^ 20 }
-    requires last_cut_bound { last_cut < 2 ^ 20 }
-    ensures { result ≡ unheld week_l5 (last + 1) ((last + 1) + (last_cut + 1)) }
+// Of two cycles, the second cut short.
+fn cut_course<C: Code>() -> Course
+    ensures { result ≡ unheld week_l5 (C.kind.last 0 + 1) ((C.kind.last 0 + 1) + (C.kind.last 1 + 1)) }
 {
-    let cycle = last as u64 + 1;
-    let period = cycle + (last_cut as u64 + 1);
+    let cycle = C::last(0) as u64 + 1;
+    let period = cycle + (C::last(1) as u64 + 1);
     Course {
         cycle,
         runs: period,
@@ -82,77 +82,118 @@ fn cut_course(last: u32, last_cut: u32) -> Course
     }
 }
 
+// A generator that goes through the week by a course.
+pub trait Coursed: Code {
+    ghost course: { Course };
+
+    fn course() -> Course
+        ensures { result ≡ course };
+
+    // The code's numbers hold it, and its table reaches every phase.
+    ghost fits: { IsTrue (fitting Self.Stages.digits course) };
+}
+
 // The places where X2A and X2B reach the last state of their last cycle of the week.
 const STOP_X2A: u64 = 6_187_103_998_930;
 
 const STOP_X2B: u64 = 6_187_103_999_034;
 
-// G1 and G2.
-pub fn course_g() -> Course
-    ensures { result ≡ course_g }
-{
-    unheld_course(machine::WEEK_CA, machine::LAST_G, 0)
+impl Coursed for G1 {
+    ghost course = { course_g };
+
+    ghost fits = { refl };
+
+    fn course() -> Course {
+        unheld_course::<G1>(machine::WEEK_CA)
+    }
 }
 
-pub fn course_x1a() -> Course
-    ensures { result ≡ course_x1a }
-{
-    unheld_course(machine::WEEK_P, machine::LAST_X1A, machine::HIGHEST_X1A)
+impl Coursed for G2 {
+    ghost course = { course_g };
+
+    ghost fits = { refl };
+
+    fn course() -> Course {
+        unheld_course::<G2>(machine::WEEK_CA)
+    }
 }
 
-pub fn course_x1b() -> Course
-    ensures { result ≡ course_x1b }
-{
-    held_course(
-        machine::WEEK_P,
-        machine::LAST_X1B,
-        machine::HIGHEST_X1B,
-        generators::HOLD_X1B,
-    )
+impl Coursed for X1A {
+    ghost course = { course_x1a };
+
+    ghost fits = { refl };
+
+    fn course() -> Course {
+        unheld_course::<X1A>(machine::WEEK_P)
+    }
 }
 
-pub fn course_x2a() -> Course
-    ensures { result ≡ course_x2a }
-{
-    held_course(
-        STOP_X2A,
-        machine::LAST_X2A,
-        machine::HIGHEST_X2A,
-        generators::HOLD_X2A,
-    )
+impl Coursed for X1B {
+    ghost course = { course_x1b };
+
+    ghost fits = { refl };
+
+    fn course() -> Course {
+        held_course::<X1B>(machine::WEEK_P, generators::HOLD_X1B)
+    }
 }
 
-pub fn course_x2b() -> Course
-    ensures { result ≡ course_x2b }
-{
-    held_course(
-        STOP_X2B,
-        machine::LAST_X2B,
-        machine::HIGHEST_X2B,
-        generators::HOLD_X2B,
-    )
+impl Coursed for X2A {
+    ghost course = { course_x2a };
+
+    ghost fits = { refl };
+
+    fn course() -> Course {
+        held_course::<X2A>(STOP_X2A, generators::HOLD_X2A)
+    }
 }
 
-pub fn course_cm() -> Course
-    ensures { result ≡ course_cm }
-{
-    unheld_course(machine::WEEK_L2, machine::LAST_CM, 0)
+impl Coursed for X2B {
+    ghost course = { course_x2b };
+
+    ghost fits = { refl };
+
+    fn course() -> Course {
+        held_course::<X2B>(STOP_X2B, generators::HOLD_X2B)
+    }
 }
 
-pub fn course_cl() -> Course
-    ensures { result ≡ course_cl }
-{
-    unheld_course(machine::WEEK_L2, machine::LAST_CL, 0)
+impl Coursed for Cm {
+    ghost course = { course_cm };
+
+    ghost fits = { refl };
+
+    fn course() -> Course {
+        unheld_course::<Cm>(machine::WEEK_L2)
+    }
 }
 
-pub fn course_xa() -> Course
-    ensures { result ≡ course_xa }
-{
-    cut_course(generators::last_xa(0), generators::last_xa(1))
+impl Coursed for Cl {
+    ghost course = { course_cl };
+
+    ghost fits = { refl };
+
+    fn course() -> Course {
+        unheld_course::<Cl>(machine::WEEK_L2)
+    }
 }
 
-pub fn course_xb() -> Course
-    ensures { result ≡ course_xb }
-{
-    cut_course(generators::last_xb(0), generators::last_xb(1))
+impl Coursed for XA {
+    ghost course = { course_xa };
+
+    ghost fits = { refl };
+
+    fn course() -> Course {
+        cut_course::<XA>()
+    }
+}
+
+impl Coursed for XB {
+    ghost course = { course_xb };
+
+    ghost fits = { refl };
+
+    fn course() -> Course {
+        cut_course::<XB>()
+    }
 }

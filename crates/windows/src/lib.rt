@@ -5,7 +5,11 @@ ghost use Rattle.std.specs.Prelude.{◌≡◌, ◌++◌, ◌≤◌, length, drop
 ghost use Rattle.machine.specs.Machine.{advance, chips};
 ghost use Rattle.machine.specs.Ranged.{Ranged};
 
+use digits::Spread;
 use machine::Channel;
+use signals::{Prn, Signal};
+use stepped::{Ca, Cl, Cm};
+use windows_l5::Start;
 
 // The most chips that one call writes.
 pub const MOST_CHIPS: u64 = 65_536;
@@ -13,22 +17,21 @@ pub const MOST_CHIPS: u64 = 65_536;
 // A window that is shorter than this is stepped: the tables are not worth while.
 const SHORT: usize = 32;
 
-// Writes the chips of `count` steps from a channel in range, by the tables of its signal.
-fn write_by_tables(ch: Channel, count: usize, out: &mut [u8]) -> Channel
-    requires ranged { Ranged ch }
-    requires count_in_bounds { count ≤ length out.old }
-    requires count_bound { count ≤ 65536 }
-    ensures { (result ≡ advance count ch) × (out.new ≡ chips count ch ++ drop count out.old) }
+// Writes the chips of a channel in range over a slice, by the tables of its signal, and gives the channel after them. That it is in range is a clause here and
+// below: a tested channel comes as well as one that was made, and goes on to its family as it is.
+fn write_by_tables(ch: Channel, out: &mut [u8]) -> Channel
+    requires { Ranged ch }
+    ensures { (result ≡ advance (length out.old) ch) × (out.new ≡ chips (length out.old) ch) }
 {
-    let spread = digits::spread();
-    let signal = ch.signal;
-    match signal {
-        1 => windows_ca::write_ca(ch, starts::stages_ca(ch.prn), count, &spread, out),
-        2 => windows_p::write_p(ch, count, &spread, out),
-        3 => windows_l2::write_cm(ch, starts::start_cm(ch.prn), count, &spread, out),
-        4 => windows_l2::write_cl(ch, starts::start_cl(ch.prn), count, &spread, out),
-        5 => windows_l5::write_i5(ch, count, &spread, out),
-        _ => windows_l5::write_q5(ch, count, &spread, out),
+    let spread = Spread::new();
+    let prn = Prn { number: ch.prn };
+    match Signal::of(ch.signal) {
+        Signal::Ca => windows_ca::write(Ca::of(prn), ch, &spread, out),
+        Signal::P => windows_p::write(ch, &spread, out),
+        Signal::L2Cm => windows_l2::write(Cm::of(prn), ch, &spread, out),
+        Signal::L2Cl => windows_l2::write(Cl::of(prn), ch, &spread, out),
+        Signal::I5 => windows_l5::write(Start::of_i5(prn), ch, &spread, out),
+        Signal::Q5 => windows_l5::write(Start::of_q5(prn), ch, &spread, out),
     }
 }
 
@@ -36,12 +39,12 @@ fn write_by_tables(ch: Channel, count: usize, out: &mut [u8]) -> Channel
 pub fn write_chips(ch: Channel, count: usize, out: &mut [u8]) -> Channel
     requires ranged { Ranged ch }
     requires count_in_bounds { count ≤ length out.old }
-    requires count_bound { count ≤ 65536 }
     ensures { (result ≡ advance count ch) × (out.new ≡ chips count ch ++ drop count out.old) }
 {
+    let part = &mut out[..count];
     if count < SHORT {
-        stepped::write_chips(ch, count, out)
+        stepped::write_chips(ch, part)
     } else {
-        write_by_tables(ch, count, out)
+        write_by_tables(ch, part)
     }
 }

@@ -7,19 +7,32 @@ ghost use Rattle.std.specs.Int.Bits.{bit_xor};
 ghost use Rattle.machine.specs.Signals.{signal_p};
 ghost use Rattle.machine.specs.Machine.{advance, chips};
 ghost use Rattle.machine.specs.Ranged.{RangedAs};
-ghost use Rattle.digits.specs.Digits.{row, bytes_of};
+ghost use Rattle.digits.specs.Digits.{row};
 ghost use Rattle.stretches.specs.Stretches.{Within, word_at};
 ghost use Rattle.stepped.specs.Inner.{Of};
 ghost use Rattle.windows_p.specs.Runs.{Tables, Fitting, Run, line_along, chip_along};
 
+use digits::Spread;
 use machine::{Channel, Generator};
+use stepped::{P, Runs};
+
+// The chips of the four generators.
+#[derive(Drop)]
+struct ByTables<'a> {
+    x1a: [u64; 65],
+    x1b: [u64; 65],
+    x2a: [u64; 65],
+    x2b: [u64; 65],
+    spread: &'a Spread,
+    ghost tables: { Tables x1a x1b x2a x2b },
+}
 
 // ---- a run
 
 // Two generators' next 64 chips from n steps on, added.
 fn both(a: Generator, ta: &[u64], b: Generator, tb: &[u64], n: usize) -> u64
-    requires within { Within a 0 n (length ta.now) }
-    requires within_2 { Within b 0 n (length tb.now) }
+    requires first_within { Within a 0 n (length ta.now) }
+    requires second_within { Within b 0 n (length tb.now) }
     ensures { result ≡ bit_xor (word_at 12 a ta.now 0 n) (word_at 12 b tb.now 0 n) }
 {
     let first = stretches::word_of(a, 12, ta, 0, n);
@@ -27,108 +40,66 @@ fn both(a: Generator, ta: &[u64], b: Generator, tb: &[u64], n: usize) -> u64
     first ^ second
 }
 
-// Writes the chips of a run in whole words, and gives the delay line after them.
-fn write_words(
-    ch: Channel,
-    n: usize,
-    x1a: &[u64],
-    x1b: &[u64],
-    x2a: &[u64],
-    x2b: &[u64],
-    spread: &[u64],
-    out: &mut [u8],
-) -> u64
-    requires tables { Tables x1a.now x1b.now x2a.now x2b.now }
-    requires spread_value { spread.now ≡ row bytes_of 256 }
-    requires fitting { Fitting ch }
-    requires run { Run n ch }
-    requires n_in_bounds { n ≤ length out.old }
-    ensures { (result ≡ line_along ch (n / 64 * 64)) × (out.new ≡ row (chip_along ch) (n / 64 * 64) ++ drop (n / 64 * 64) out.old) }
-{
-    let whole = n / 64 * 64;
-    let mut line = ch.delay;
-    let mut i: usize = 0;
-    while i < whole {
-        let x1 = both(ch.first, x1a, ch.second, x1b, i);
-        let x2 = both(ch.third, x2a, ch.fourth, x2b, i);
+impl ByTables<'_> {
+    // Writes the first chips of a run over a slice, in whole words, and gives the delay line after them. L5 has a function like this and like the next: in P
+    // the delay line goes along from word to word, and L5 has none. `Fitting` and `Run` are clauses, for `stepped::Runs` tells them of each call's channel.
+    fn write_words(&self, ch: Channel, out: &mut [u8]) -> u64
+        requires fitting { Fitting ch }
+        requires run { Run (length out.old) ch }
+        ensures { (result ≡ line_along ch (length out.old / 64 * 64))
+            × (out.new ≡ row (chip_along ch) (length out.old / 64 * 64) ++ drop (length out.old / 64 * 64) out.old) }
+    {
+        let mut line = ch.delay;
+        for block in 0..out.len() / 64 {
+            let i = block * 64;
+            let x1 = both(ch.first, &self.x1a, ch.second, &self.x1b, i);
+            let x2 = both(ch.third, &self.x2a, ch.fourth, &self.x2b, i);
+            let word = x1 ^ delay_lines::delayed(line, x2, ch.prn);
+            digits::write_whole(word, self.spread, &mut out[i..]);
+            line = x2 % machine::LINE_LIMIT;
+        }
+        line
+    }
+
+    // Writes the chips of a run over a slice, the last of them in a part of a word, and gives the delay line after it.
+    fn write_run(&self, ch: Channel, out: &mut [u8]) -> u64
+        requires fitting { Fitting ch }
+        requires run { Run (length out.old) ch }
+        ensures { (result ≡ line_along ch (length out.old)) × (out.new ≡ row (chip_along ch) (length out.old)) }
+    {
+        let n = out.len();
+        let line = self.write_words(ch, out);
+        let i = n / 64 * 64;
+        let k = (n - i) as u32;
+        if k == 0 {
+            return line;
+        }
+        let x1 = both(ch.first, &self.x1a, ch.second, &self.x1b, i);
+        let x2 = both(ch.third, &self.x2a, ch.fourth, &self.x2b, i);
         let word = x1 ^ delay_lines::delayed(line, x2, ch.prn);
-        digits::write_whole(word, spread, &mut out[i..]);
-        line = x2 % machine::LINE_LIMIT;
-        i += 64;
+        digits::write_word(word, k, self.spread, &mut out[i..]);
+        delay_lines::line_after(line, x2, k)
     }
-    line
-}
 
-// Writes the chips of a run, the last of them in a part of a word, and gives the delay line after it.
-fn write_run(
-    ch: Channel,
-    n: usize,
-    x1a: &[u64],
-    x1b: &[u64],
-    x2a: &[u64],
-    x2b: &[u64],
-    spread: &[u64],
-    out: &mut [u8],
-) -> u64
-    requires tables { Tables x1a.now x1b.now x2a.now x2b.now }
-    requires spread_value { spread.now ≡ row bytes_of 256 }
-    requires fitting { Fitting ch }
-    requires run { Run n ch }
-    requires n_in_bounds { n ≤ length out.old }
-    ensures { (result ≡ line_along ch n) × (out.new ≡ row (chip_along ch) n ++ drop n out.old) }
-{
-    let line = write_words(ch, n, x1a, x1b, x2a, x2b, spread, out);
-    let i = n / 64 * 64;
-    let k = (n - i) as u32;
-    if k == 0 {
-        return line;
-    }
-    let x1 = both(ch.first, x1a, ch.second, x1b, i);
-    let x2 = both(ch.third, x2a, ch.fourth, x2b, i);
-    let word = x1 ^ delay_lines::delayed(line, x2, ch.prn);
-    digits::write_word(word, k, spread, &mut out[i..]);
-    delay_lines::line_after(line, x2, k)
-}
-
-// Writes the chips of a run, and gives the channel after it.
-fn go_along(
-    ch: Channel,
-    n: usize,
-    x1a: &[u64],
-    x1b: &[u64],
-    x2a: &[u64],
-    x2b: &[u64],
-    spread: &[u64],
-    out: &mut [u8],
-) -> Channel
-    requires of { Of signal_p ch }
-    requires tables { Tables x1a.now x1b.now x2a.now x2b.now }
-    requires spread_value { spread.now ≡ row bytes_of 256 }
-    requires fitting { Fitting ch }
-    requires run { Run n ch }
-    requires n_in_bounds { n ≤ length out.old }
-    ensures { (result ≡ advance n ch) × (out.new ≡ chips n ch ++ drop n out.old) }
-{
-    let delay = write_run(ch, n, x1a, x1b, x2a, x2b, spread, out);
-    Channel {
-        signal: ch.signal,
-        prn: ch.prn,
-        place: ch.place + n as u64,
-        epoch: ch.epoch,
-        delay,
-        first: stretches::after(ch.first, x1a, 0, 12, n),
-        second: stretches::after(ch.second, x1b, 0, 12, n),
-        third: stretches::after(ch.third, x2a, 0, 12, n),
-        fourth: stretches::after(ch.fourth, x2b, 0, 12, n),
+    // Whether each register is the one of its phase.
+    fn fitting(&self, ch: Channel) -> bool
+        requires { RangedAs (signal_p ch.prn) ch }
+        ensures { result ≡ true → Fitting ch }
+    {
+        let first = stretches::fits(ch.first, &self.x1a, 0, 12);
+        let second = stretches::fits(ch.second, &self.x1b, 0, 12);
+        let third = stretches::fits(ch.third, &self.x2a, 0, 12);
+        let fourth = stretches::fits(ch.fourth, &self.x2b, 0, 12);
+        first & second & third & fourth
     }
 }
 
 // ---- where runs are
 
-// The steps of the run that a channel is in, at most `most`: none at the end of a cycle or of a hold.
-fn run_of(ch: Channel, most: usize) -> usize
+// The steps before the end of a cycle, of a hold or of the week, at most `most`.
+fn steps_before(ch: Channel, most: usize) -> usize
     requires of { Of signal_p ch }
-    requires most_bound { most ≤ 65536 }
+    requires not_too_long { most ≤ 65536 }
     ensures { (result ≤ most) × (0 < result → Run result ch) }
 {
     let first = stretches::stretch_of(ch.first, machine::LAST_X1A) as usize;
@@ -136,96 +107,61 @@ fn run_of(ch: Channel, most: usize) -> usize
     let third = stretches::stretch_of(ch.third, machine::LAST_X2A) as usize;
     let fourth = stretches::stretch_of(ch.fourth, machine::LAST_X2B) as usize;
     let week = (machine::WEEK_P - 1 - ch.place) as usize;
-    let x1 = stretches::least(first, second);
-    let x2 = stretches::least(third, fourth);
-    stretches::least(stretches::least(x1, x2), stretches::least(week, most))
+    first.min(second).min(third.min(fourth)).min(week.min(most))
 }
 
-// Whether each register is the one of its phase.
-fn fitting(ch: Channel, x1a: &[u64], x1b: &[u64], x2a: &[u64], x2b: &[u64]) -> bool
-    requires ranged_as { RangedAs (signal_p ch.prn) ch }
-    requires tables { Tables x1a.now x1b.now x2a.now x2b.now }
-    ensures { result ≡ true → Fitting ch }
-{
-    let first = stretches::fits(ch.first, x1a, 0, 12);
-    let second = stretches::fits(ch.second, x1b, 0, 12);
-    let third = stretches::fits(ch.third, x2a, 0, 12);
-    let fourth = stretches::fits(ch.fourth, x2b, 0, 12);
-    first & second & third & fourth
-}
+// A run is not short, and each register is the one of its phase.
+impl Runs for ByTables<'_> {
+    ghost signal = { λ tables. signal_p };
 
-// The steps of the run that is taken from the tables here: none where it is short, or a register is not the one of its phase.
-fn run_by_tables(
-    ch: Channel,
-    most: usize,
-    x1a: &[u64],
-    x1b: &[u64],
-    x2a: &[u64],
-    x2b: &[u64],
-) -> usize
-    requires of { Of signal_p ch }
-    requires tables { Tables x1a.now x1b.now x2a.now x2b.now }
-    requires most_bound { most ≤ 65536 }
-    ensures { (result ≤ most) × ((0 < result → Run result ch) × (0 < result → Fitting ch)) }
-{
-    let n = run_of(ch, most);
-    if n < stretches::SHORT_RUN {
-        return 0;
+    ghost is_run = { λ tables n ch. Run n ch × Fitting ch };
+
+    fn run_of(&self, ch: Channel, most: usize) -> Option<usize> {
+        let n = steps_before(ch, most);
+        if n < stretches::SHORT_RUN {
+            return None;
+        }
+        if self.fitting(ch) { Some(n) } else { None }
     }
-    if fitting(ch, x1a, x1b, x2a, x2b) {
-        n
-    } else {
-        0
+
+    fn go_along(&self, ch: Channel, out: &mut [u8]) -> Channel {
+        let n = out.len();
+        let delay = self.write_run(ch, out);
+        Channel {
+            place: ch.place + n as u64,
+            delay,
+            first: stretches::after(ch.first, &self.x1a, 0, 12, n),
+            second: stretches::after(ch.second, &self.x1b, 0, 12, n),
+            third: stretches::after(ch.third, &self.x2a, 0, 12, n),
+            fourth: stretches::after(ch.fourth, &self.x2b, 0, 12, n),
+            ..ch
+        }
+    }
+
+    fn step_along(&self, ch: Channel, out: &mut [u8]) -> Channel {
+        stepped::write(P, ch, out)
+    }
+
+    fn between() -> usize
+        ensures { 0 < result }
+    {
+        stretches::AT_AN_EVENT
     }
 }
 
 // ---- the window
 
-// Runs, and single steps between them.
-fn write_by_runs(
-    ch: Channel,
-    count: usize,
-    x1a: &[u64],
-    x1b: &[u64],
-    x2a: &[u64],
-    x2b: &[u64],
-    spread: &[u64],
-    out: &mut [u8],
-) -> Channel
-    requires of { Of signal_p ch }
-    requires tables { Tables x1a.now x1b.now x2a.now x2b.now }
-    requires spread_value { spread.now ≡ row bytes_of 256 }
-    requires count_in_bounds { count ≤ length out.old }
-    requires count_bound { count ≤ 65536 }
-    ensures { (result ≡ advance count ch) × (out.new ≡ chips count ch ++ drop count out.old) }
+// Writes the chips of a channel of P over a slice, and gives the channel after them.
+pub fn write(ch: Channel, spread: &Spread, out: &mut [u8]) -> Channel
+    requires { Of signal_p ch }
+    ensures { (result ≡ advance (length out.old) ch) × (out.new ≡ chips (length out.old) ch) }
 {
-    let mut here = ch;
-    let mut written: usize = 0;
-    while written < count {
-        let n = run_by_tables(here, count - written, x1a, x1b, x2a, x2b);
-        if 0 < n {
-            here = go_along(here, n, x1a, x1b, x2a, x2b, spread, &mut out[written..]);
-            written += n;
-        } else {
-            let few = stretches::least(count - written, stretches::AT_AN_EVENT);
-            here = stepped::write_p(here, few, &mut out[written..]);
-            written += few;
-        }
-    }
-    here
-}
-
-// P.
-pub fn write_p(ch: Channel, count: usize, spread: &[u64], out: &mut [u8]) -> Channel
-    requires of { Of signal_p ch }
-    requires spread_value { spread.now ≡ row bytes_of 256 }
-    requires count_in_bounds { count ≤ length out.old }
-    requires count_bound { count ≤ 65536 }
-    ensures { (result ≡ advance count ch) × (out.new ≡ chips count ch ++ drop count out.old) }
-{
-    let x1a = sequences::x1a();
-    let x1b = sequences::x1b();
-    let x2a = sequences::x2a();
-    let x2b = sequences::x2b();
-    write_by_runs(ch, count, &x1a, &x1b, &x2a, &x2b, spread, out)
+    let tables = ByTables {
+        x1a: sequences::x1a(),
+        x1b: sequences::x1b(),
+        x2a: sequences::x2a(),
+        x2b: sequences::x2b(),
+        spread,
+    };
+    stepped::write_by_runs(&tables, ch, out)
 }

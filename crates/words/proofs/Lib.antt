@@ -1,4 +1,3 @@
--- `RoundTrip` is the theorem.
 pub mod Modes
 pub mod Generators
 pub mod RoundTrip

@@ -1,42 +1,51 @@
--- Modes in a text: what the readers need, which at byte i have `drop i` of the text before them.
+-- Modes at the front of a text: what the readers need, which see a text by its length and its first byte.
 -- Assumes nothing.
-use Prim.Native.Nat.{ℕ, ◌+◌, ◌≤◌, ◌<◌}
-use mathlib.Core.Path.{◌≡◌, refl, ap, ◌∙◌}
-use mathlib.Core.List.{List, ◌∷◌}
-use native.Mathlib.Numerals.{add-one}
-use lib.ListN.{length, drop, get_or, drop_of_length-le}
-use lib.Seq.{drop-cons}
+use Prim.Native.Nat.{ℕ, ◌-◌, ◌≤◌, ◌<◌}
+use mathlib.Core.List.{List, [], ◌∷◌}
+use mathlib.Core.Path.{◌≡◌, refl, sym, ap}
+use native.Mathlib.Omega.{arith}
+use lib.ListN.{length, take, drop, get_or}
+use lib.Seq.{take_all}
 use borrow.Author.Tests.{eq-eqb, ne_eqb}
+use Rattle.std.specs.Prelude.{Some, None}
 use Rattle.machine.specs.declared.Mode.TheVariants as modes
-use Rattle.numbers.specs.Numbers.{found, missing, most32, read_number}
-use Rattle.words.specs.Words.{read_running, held_from, read_mode}
+use Rattle.words.specs.Words.{read_running, read_held, read_mode}
 
-module _ (mark : ℕ) (l : List ℕ) (i : ℕ) where
-  pub no_running : length l ≤ i → read_running mark (drop i l) ≡ missing modes.Running
-  no_running h = rw (drop_of_length-le l h) refl
+-- what stands behind a first byte
+behind : (b : ℕ) (bs : List ℕ) → take (length (b ∷ bs) - 1) bs ≡ bs
+behind b bs = take_all (length (b ∷ bs) - 1) bs (omega arith)
 
-  pub no_mode : length l ≤ i → read_mode mark (drop i l) ≡ missing modes.Running
+module _ (mark : ℕ) where
+  pub no_running : (l : List ℕ) → length l < 1 → read_running mark l ≡ None
+  no_running [] h = refl
+  no_running (b ∷ bs) h = absurd (omega (arith, h))
+
+  pub other_mark : (l : List ℕ) → (get_or l 0 0 ≡ mark → ⊥) → read_running mark l ≡ None
+  other_mark [] other = refl
+  other_mark (b ∷ bs) other = rw (ne_eqb b mark other) refl
+
+  pub runs : (l : List ℕ) → 1 ≤ length l → get_or l 0 0 ≡ mark → read_running mark l ≡ Some (modes.Running, take (length l - 1) (drop 1 l))
+  runs [] h is = absurd (omega (arith, h))
+  runs (b ∷ bs) h is = rw (eq-eqb b mark is) (ap (λ (rest : List ℕ). Some (modes.Running, rest)) (sym (behind b bs)))
+
+  pub no_mode : (l : List ℕ) → length l < 1 → read_mode mark l ≡ None
   unfolding read_mode
-  no_mode h = rw (drop_of_length-le l h) refl
+  no_mode [] h = refl
+  no_mode (b ∷ bs) h = absurd (omega (arith, h))
 
-module _ (mark : ℕ) (l : List ℕ) (i : ℕ) (h : i < length l) where
-  pub other_mark : (get_or l i 0 ≡ mark → ⊥) → read_running mark (drop i l) ≡ missing modes.Running
-  other_mark e = ap (read_running mark) (drop-cons l i 0 h) ∙ rw (ne_eqb (get_or l i 0) mark e) refl
-
-  pub runs : get_or l i 0 ≡ mark → read_running mark (drop i l) ≡ found modes.Running (drop (i + 1) l)
-  runs e = ap (read_running mark) (drop-cons l i 0 h) ∙ rw (eq-eqb (get_or l i 0) mark e, add-one i) refl
-
-  mode_byte : read_mode mark (drop i l) ≡ read_mode mark (get_or l i 0 ∷ drop (i + 1) l)
-  mode_byte = rw (add-one i) (ap (read_mode mark) (drop-cons l i 0 h))
-
-  pub is_running : get_or l i 0 ≡ 82 → read_mode mark (drop i l) ≡ read_running mark (drop (i + 1) l)
+  pub is_running : (l : List ℕ) → get_or l 0 0 ≡ 82 → read_mode mark l ≡ read_running mark (take (length l - 1) (drop 1 l))
   unfolding read_mode
-  is_running e = mode_byte ∙ ap (λ (b : ℕ). read_mode mark (b ∷ drop (i + 1) l)) e
+  is_running [] is = absurd (omega (arith, is))
+  is_running (b ∷ bs) is = rw (eq-eqb b 82 is) (ap (read_running mark) (sym (behind b bs)))
 
-  pub is_held : get_or l i 0 ≡ 72 → read_mode mark (drop i l) ≡ held_from (read_number most32 mark (drop (i + 1) l))
+  pub is_held : (l : List ℕ) → get_or l 0 0 ≡ 72 → read_mode mark l ≡ read_held mark (take (length l - 1) (drop 1 l))
   unfolding read_mode
-  is_held e = mode_byte ∙ ap (λ (b : ℕ). read_mode mark (b ∷ drop (i + 1) l)) e
+  is_held [] is = absurd (omega (arith, is))
+  is_held (b ∷ bs) is =
+      let other : b ≡ 82 → ⊥ = λ (e : b ≡ 82). omega (arith, e, is) in
+      rw (ne_eqb b 82 other, eq-eqb b 72 is) (ap (read_held mark) (sym (behind b bs)))
 
-  pub other_mode : (get_or l i 0 ≡ 82 → ⊥) → (get_or l i 0 ≡ 72 → ⊥) → read_mode mark (drop i l) ≡ missing modes.Running
+  pub other_mode : (l : List ℕ) → (get_or l 0 0 ≡ 82 → ⊥) → (get_or l 0 0 ≡ 72 → ⊥) → read_mode mark l ≡ None
   unfolding read_mode
-  other_mode r k = mode_byte ∙ rw (ne_eqb (get_or l i 0) 82 r, ne_eqb (get_or l i 0) 72 k) refl
+  other_mode [] r k = refl
+  other_mode (b ∷ bs) r k = rw (ne_eqb b 82 r, ne_eqb b 72 k) refl

@@ -1,11 +1,10 @@
--- Words written to a buffer: one behind the other, and how long they are.
+-- Words put behind what stands there, one behind the other, and how long they are.
 -- Assumes nothing.
 use Prim.Native.Nat.{ℕ, ◌+◌, ◌≤◌}
-use mathlib.Core.List.{List, ◌++◌}
+use mathlib.Core.List.{List, [], ◌∷◌, ◌++◌, append_assoc}
+use mathlib.Core.Path.{◌≡◌, ◌∙◌}
 use native.Mathlib.Omega.{arith}
 use lib.ListN.{length, length-append}
-use Rattle.texts.specs.Buffers.{Puts}
-use Rattle.texts.proofs.Written.{puts_more}
 use Rattle.machine.specs.declared.Mode.{Mode}
 use Rattle.machine.specs.declared.Mode.TheVariants as modes
 use Rattle.machine.specs.declared.Generator.{Generator}
@@ -14,13 +13,45 @@ use Rattle.numbers.specs.Numbers.{number_word}
 use Rattle.numbers.proofs.Numbers.{number_short}
 use Rattle.words.specs.Words.{mode_word, generator_word, generators_word, channel_word}
 
--- ---- four words, one behind the other
+-- ---- words behind what stands there
 
-module _ (w x y z : List ℕ) (at p q r end : ℕ) (b0 b1 b2 b3 b4 : List ℕ) (first : Puts w at b0 b1 p) (second : Puts x p b1 b2 q) (third : Puts y q b2 b3 r) (fourth : Puts z r b3 b4 end) where
-  pub four_put : at ≤ length b0 → p ≤ length b1 → q ≤ length b2 → Puts (w ++ (x ++ (y ++ z))) at b0 b4 end
-  four_put h1 h2 h3 =
-      puts_more w (x ++ (y ++ z)) at p end b0 b1 b4 h1 first
-      (puts_more x (y ++ z) p q end b1 b2 b4 h2 second (puts_more y z q r end b2 b3 b4 h3 third fourth))
+four_behind : (before w x y z : List ℕ) → (((before ++ w) ++ x) ++ y) ++ z ≡ before ++ (w ++ (x ++ (y ++ z)))
+four_behind before w x y z =
+    append_assoc ((before ++ w) ++ x) y z ∙ append_assoc (before ++ w) x (y ++ z) ∙ append_assoc before w (x ++ (y ++ z))
+
+module _ (mark : ℕ) (before : List ℕ) where
+  pub running_put : (before ++ (82 ∷ [])) ++ (mark ∷ []) ≡ before ++ mode_word mark modes.Running
+  unfolding mode_word
+  running_put = append_assoc before (82 ∷ []) (mark ∷ [])
+
+  pub held_put : (n : ℕ) → (before ++ (72 ∷ [])) ++ number_word mark n ≡ before ++ mode_word mark (modes.Held n)
+  unfolding mode_word
+  held_put n = append_assoc before (72 ∷ []) (number_word mark n)
+
+  pub generator_put : (g : Generator)
+      → (((before ++ number_word 46 g.register) ++ number_word 46 g.phase) ++ number_word 46 g.cycles) ++ mode_word mark g.mode ≡ before ++ generator_word mark g
+  unfolding generator_word
+  generator_put g = four_behind before (number_word 46 g.register) (number_word 46 g.phase) (number_word 46 g.cycles) (mode_word mark g.mode)
+
+  pub generators_put : (ch : Channel)
+      → (((before ++ generator_word 47 ch.first) ++ generator_word 47 ch.second) ++ generator_word 47 ch.third) ++ generator_word mark ch.fourth
+      ≡ before ++ generators_word mark ch
+  unfolding generators_word
+  generators_put ch = four_behind before (generator_word 47 ch.first) (generator_word 47 ch.second) (generator_word 47 ch.third) (generator_word mark ch.fourth)
+
+  pub channel_put : (ch : Channel)
+      → (((((before ++ number_word 47 ch.signal) ++ number_word 47 ch.prn) ++ number_word 47 ch.place) ++ number_word 47 ch.epoch) ++ number_word 47 ch.delay)
+      ++ generators_word mark ch
+      ≡ before ++ channel_word mark ch
+  unfolding channel_word
+  channel_put ch =
+      let a = number_word 47 ch.signal in
+      let b = number_word 47 ch.prn in
+      let c = number_word 47 ch.place in
+      let d = number_word 47 ch.epoch in
+      let e = number_word 47 ch.delay in
+      let f = generators_word mark ch in
+      append_assoc ((((before ++ a) ++ b) ++ c) ++ d) e f ∙ append_assoc (((before ++ a) ++ b) ++ c) d (e ++ f) ∙ four_behind before a b c (d ++ (e ++ f))
 
 -- ---- how long the words are
 

@@ -1,15 +1,12 @@
 -- Channels as words of text, and how such words are read. Bytes are those of ASCII: 46 is `.`, 47 `/`, 72 `H`, 82 `R`. Behind each word stands a mark: a
 -- space, a newline, or one of the two that part the fields of a channel.
 -- Assumes nothing.
-use Rattle.std.specs.Prelude.{ℕ, ◌≤◌, cond, List, [], ◌∷◌, ◌++◌, eqb, drop}
+use Rattle.std.specs.Prelude.{ℕ, ◌≤◌, List, [], ◌∷◌, ◌++◌, Some, None, option_map, ◌==◌, if◌then◌else◌}
 use Rattle.machine.specs.declared.Mode.{Mode}
 use Rattle.machine.specs.declared.Mode.TheVariants as modes
 use Rattle.machine.specs.declared.Generator.{Generator}
 use Rattle.machine.specs.declared.Channel.{Channel}
-use Rattle.numbers.specs.Numbers.{number_word, most32, most64, Read, found, missing, read_number}
-use Rattle.words.specs.declared.ModeRead.{ModeRead}
-use Rattle.words.specs.declared.GeneratorRead.{GeneratorRead}
-use Rattle.words.specs.declared.ChannelRead.{ChannelRead}
+use Rattle.numbers.specs.Numbers.{number_word, most32, most64, Read, ◌>>=◌, read_number}
 
 -- ---- words written
 
@@ -60,72 +57,48 @@ pub record ChannelFits (ch : Channel) : Type 0 where
 -- ---- words read
 
 abbrev pub read_running : ℕ → List ℕ → Read Mode
-read_running mark [] = missing modes.Running
-read_running mark (b ∷ bs) = cond (eqb b mark) (found modes.Running bs) (missing modes.Running)
+read_running mark [] = None
+read_running mark (b ∷ bs) = if b == mark then Some (modes.Running, bs) else None
 
-abbrev pub held_from : Read ℕ → Read Mode
-held_from n = record { there = n.there; value = modes.Held n.value; rest = n.rest }
+abbrev pub read_held : ℕ → List ℕ → Read Mode
+read_held mark text = option_map (λ n. (modes.Held n.0, n.1)) (read_number most32 mark text)
 
 unfoldable pub read_mode : ℕ → List ℕ → Read Mode
-read_mode mark [] = missing modes.Running
-read_mode mark (b ∷ bs) =
-    cond (eqb b 82) (read_running mark bs) (cond (eqb b 72) (held_from (read_number most32 mark bs)) (missing modes.Running))
+read_mode mark [] = None
+read_mode mark (b ∷ bs) = if b == 82 then read_running mark bs else if b == 72 then read_held mark bs else None
 
--- a generator, given its parts, each read behind the one before
-abbrev pub generator_from : Read ℕ → Read ℕ → Read ℕ → Read Mode → Read Generator
-generator_from register phase cycles mode =
-    record {
-      there = mode.there;
-      value = record { register = register.value; phase = phase.value; cycles = cycles.value; mode = mode.value };
-      rest = mode.rest;
-    }
-
+-- a generator: its parts, each read behind the one before
 unfoldable pub read_generator : ℕ → List ℕ → Read Generator
-read_generator mark text =
-    let register = read_number most32 46 text in
-    let phase = read_number most32 46 register.rest in
-    let cycles = read_number most32 46 phase.rest in
-    generator_from register phase cycles (read_mode mark cycles.rest)
+read_generator mark text = do
+  register ← read_number most32 46 text
+  phase ← read_number most32 46 register.1
+  cycles ← read_number most32 46 phase.1
+  mode ← read_mode mark cycles.1
+  Some (record { register = register.0; phase = phase.0; cycles = cycles.0; mode = mode.0 }, mode.1)
 
--- a channel, given its parts, each read behind the one before
-abbrev pub channel_from : Read ℕ → Read ℕ → Read ℕ → Read ℕ → Read ℕ → Read Generator → Read Generator → Read Generator → Read Generator → Read Channel
-channel_from signal prn place epoch delay first second third fourth =
-    record {
-      there = fourth.there;
-      value =
-          record {
-            signal = signal.value;
-            prn = prn.value;
-            place = place.value;
-            epoch = epoch.value;
-            delay = delay.value;
-            first = first.value;
-            second = second.value;
-            third = third.value;
-            fourth = fourth.value;
-          };
-      rest = fourth.rest;
-    }
-
+-- a channel: its parts, each read behind the one before
 unfoldable pub read_channel : ℕ → List ℕ → Read Channel
-read_channel mark text =
-    let signal = read_number most32 47 text in
-    let prn = read_number most32 47 signal.rest in
-    let place = read_number most64 47 prn.rest in
-    let epoch = read_number most32 47 place.rest in
-    let delay = read_number most64 47 epoch.rest in
-    let first = read_generator 47 delay.rest in
-    let second = read_generator 47 first.rest in
-    let third = read_generator 47 second.rest in
-    channel_from signal prn place epoch delay first second third (read_generator mark third.rest)
-
--- ---- what each answer of the code says, given the whole text
-
-abbrev pub of_mode : List ℕ → ModeRead → Read Mode
-of_mode text r = record { there = r.there; value = r.mode; rest = drop r.end text }
-
-abbrev pub of_generator : List ℕ → GeneratorRead → Read Generator
-of_generator text r = record { there = r.there; value = r.generator; rest = drop r.end text }
-
-abbrev pub of_channel : List ℕ → ChannelRead → Read Channel
-of_channel text r = record { there = r.there; value = r.channel; rest = drop r.end text }
+read_channel mark text = do
+  signal ← read_number most32 47 text
+  prn ← read_number most32 47 signal.1
+  place ← read_number most64 47 prn.1
+  epoch ← read_number most32 47 place.1
+  delay ← read_number most64 47 epoch.1
+  first ← read_generator 47 delay.1
+  second ← read_generator 47 first.1
+  third ← read_generator 47 second.1
+  fourth ← read_generator mark third.1
+  Some (
+    record {
+      signal = signal.0;
+      prn = prn.0;
+      place = place.0;
+      epoch = epoch.0;
+      delay = delay.0;
+      first = first.0;
+      second = second.0;
+      third = third.0;
+      fourth = fourth.0;
+    },
+    fourth.1,
+  )

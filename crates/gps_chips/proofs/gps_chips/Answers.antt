@@ -1,56 +1,23 @@
--- `gps_chips::gps_chips` meets its contract.
+-- The channel at a place is in range, and what the machine fills the buffer with is what the standards do.
 -- Assumes nothing.
-use mathlib.Core.Path.{◌≡◌, sym, ap, subst}
-use native.Mathlib.Omega.{arith}
+use mathlib.Core.Path.{ap, subst, ◌∙◌}
+use Prim.Native.Nat.{ℕ, ◌<◌}
 use lib.ListN.{length}
-use Rattle.machine.specs.Ranged.{Ranged}
-use Rattle.machine.specs.Machine.{advance, opened}
+use Rattle.machine.specs.Signals.{week_of}
 use Rattle.machine.proofs.RangeLaw.{reached_in}
-use Rattle.machine.proofs.Ranges.{signal_in, prn_in, ranged}
-use Rattle.seeks.specs.declared.Landed.{Landed}
-use Rattle.gps_chips.proofs.Answers.{admitted, unwritten, filled}
+use Rattle.machine.proofs.Ranges.{ranged}
+use Rattle.gps_chips.proofs.Answers.{Admitted, filled, agree}
 use Rattle.gps_chips.proofs.gps_chips.Goals as goal
 
-pub returns-then-refusal-gt-ACCEPTED : goal.returns-then-refusal-gt-ACCEPTED
-returns-then-refusal-gt-ACCEPTED c =
+pub write_chips-requires-clause-ranged : goal.write_chips-requires-clause-ranged
+write_chips-requires-clause-ranged c =
     let a = c.args in
-    let known_facts = unwritten a.signal a.prn a.place a.buffer.now _ c.refusal_of-refusal.ensures c.if-refusal-gt-ACCEPTED.true in
-    record { answer = known_facts.0; chips_by_the_machine = known_facts.1.0; chips_by_the_standards = known_facts.1.1 }
+    rw (c.land.ensures, c.in_ok-signal.ensures.1, c.in_ok-prn.ensures.1) (ranged _ (reached_in a.signal a.prn a.place c.in_ok-signal.ensures.0 c.in_ok-prn.ensures.0))
 
-pub overflow_cast-signal : goal.overflow_cast-signal
-overflow_cast-signal c =
+pub returns-clause-chips_by_the_standards : goal.returns-clause-chips_by_the_standards
+returns-clause-chips_by_the_standards c =
     let a = c.args in
-    let ok = admitted a.signal a.prn a.place (length a.buffer.now) _ c.refusal_of-refusal.ensures c.if-refusal-gt-ACCEPTED.false in
-    let last = (signal_in a.signal ok.is_signal).1 in
-    omega arith
-
-pub overflow_cast-prn : goal.overflow_cast-prn
-overflow_cast-prn c =
-    let a = c.args in
-    let ok = admitted a.signal a.prn a.place (length a.buffer.now) _ c.refusal_of-refusal.ensures c.if-refusal-gt-ACCEPTED.false in
-    let last = (prn_in a.prn ok.is_prn).last in
-    omega arith
-
-pub land-landed-requires : goal.land-landed-requires
-land-landed-requires c =
-    let a = c.args in
-    let ok = admitted a.signal a.prn a.place (length a.buffer.now) _ c.refusal_of-refusal.ensures c.if-refusal-gt-ACCEPTED.false in
-    record { le_signal = (signal_in a.signal ok.is_signal).0; signal_bound = (signal_in a.signal ok.is_signal).1; listed = prn_in a.prn ok.is_prn; place_bound = ok.within }
-
-pub write_chips-requires : goal.write_chips-requires
-write_chips-requires c =
-    let land = c in
-    let a = c.args in
-    let ok = admitted a.signal a.prn a.place (length a.buffer.now) _ c.refusal_of-refusal.ensures c.if-refusal-gt-ACCEPTED.false in
-    let there : c.land-landed.result.channel ≡ advance a.place (opened a.signal a.prn) = ap (λ (l : Landed). l.channel) c.land-landed.ensures in
-    record { ranged = subst Ranged (sym there) (ranged _ (reached_in a.signal a.prn a.place ok.is_signal ok.is_prn)); count_in_bounds = omega arith; count_bound = omega arith }
-
-pub returns : goal.returns
-returns c =
-    let land = c in
-    let a = c.args in
-    let ok = admitted a.signal a.prn a.place (length a.buffer.now) _ c.refusal_of-refusal.ensures c.if-refusal-gt-ACCEPTED.false in
-    let known_facts = filled a.signal a.prn a.place a.buffer.now ok _ _
-    (ap (λ (l : Landed). l.channel) c.land-landed.ensures)
-    c.write_chips.ensures.1 in
-    record { answer = known_facts.0; chips_by_the_machine = known_facts.1.0; chips_by_the_standards = known_facts.1.1 }
+    let within : a.place < week_of a.signal = subst (λ (w : ℕ). a.place < w) (c.week.ensures ∙ ap week_of c.in_ok-signal.ensures.1) c.if-week-place.false in
+    let admitted : Admitted a.signal a.prn a.place (length a.buffer.now) = record { is_signal = c.in_ok-signal.ensures.0; is_prn = c.in_ok-prn.ensures.0; within = within; short = c.if-buffer-gt-MOST_CHIPS.false } in
+    let made = rw (c.land.ensures, c.in_ok-signal.ensures.1, c.in_ok-prn.ensures.1) at c.write_chips.ensures.1 in
+    filled a.signal a.prn a.place a.buffer.now admitted _ made ∙ agree a.signal a.prn a.place a.buffer.now

@@ -21,7 +21,7 @@ fold-requires c =
     let half_back = to_z_pos w64 (week / 2) (omega arith) in
     let week-back = to_z_pos w64 week (omega arith) in
     let d-back = to_z-of_z w64 d (difference_fits a b (omega arith) (omega arith)) in
-    rw (half_back, week-back, c.difference.ensures, d-back) record { sfits = fits (neg_ℤ (pos (week / 2))) 0 (week / 2) (neg_is (pos (week / 2)) (week / 2) 0 (omega arith)) (omega arith) (omega arith); sfits_2 = fits (d -ℤ pos week) b (a + week) (minus d b a week known) (omega arith) (omega arith); sfits_3 = fits (d +ℤ pos week) (b + week) a (plus d b a week known) (omega arith) (omega arith) }
+    rw (half_back, week-back, c.difference.ensures, d-back) record { opposite_fits = fits (neg_ℤ (pos (week / 2))) 0 (week / 2) (neg_is (pos (week / 2)) (week / 2) 0 (omega arith)) (omega arith) (omega arith); less_fits = fits (d -ℤ pos week) b (a + week) (minus d b a week known) (omega arith) (omega arith); more_fits = fits (d +ℤ pos week) (b + week) a (plus d b a week known) (omega arith) (omega arith) }
 
 pub returns : goal.returns
 returns c =

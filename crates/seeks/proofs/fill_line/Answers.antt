@@ -9,44 +9,35 @@ use Rattle.seeks.proofs.fill_line.Goals as goal
 
 pub loop-at-init : goal.loop-at-init
 loop-at-init c =
-    (omega arith, c.requires.from_le_place, filled_first c.args.from c.args.third c.args.fourth c.requires.third_value c.requires.fourth_value)
-
-pub overflow_add-at : goal.overflow_add-at
-overflow_add-at c = omega (arith, c.requires.place_lt_week_p)
+    filled_first c.args.from c.args.third c.args.fourth c.requires.third_value c.requires.fourth_value
 
 pub next_line-line-requires : goal.next_line-line-requires
 next_line-line-requires c =
-    let l = c.loop-at in delay_in c.args.from l.at l.x2a l.x2b l.line l.invariant.2
+    let l = c.loop-at in delay_in c.args.from l.at l.x2a l.x2b l.line l.invariant
 
-pub step_x2a-x2a-requires : goal.step_x2a-x2a-requires
-step_x2a-x2a-requires c =
+pub step-x2a-requires : goal.step-x2a-requires
+step-x2a-requires c =
     let l = c.loop-at in
     let a = c.args in
-    third_in a.from l.at l.x2a l.x2b l.line (omega (arith, c.requires.place_lt_week_p)) l.invariant.2
+    third_in a.from l.at l.x2a l.x2b l.line (omega (arith, c.requires.place_lt_week_p)) l.invariant
 
-pub step_x2b-x2b-requires : goal.step_x2b-x2b-requires
-step_x2b-x2b-requires c =
+pub step-x2b-requires : goal.step-x2b-requires
+step-x2b-requires c =
     let l = c.loop-at in
     let a = c.args in
-    fourth_in a.from l.at l.x2a l.x2b l.line (omega (arith, c.requires.place_lt_week_p)) l.invariant.2
-
-pub loop-at-smaller : goal.loop-at-smaller
-loop-at-smaller c = omega arith
+    fourth_in a.from l.at l.x2a l.x2b l.line (omega (arith, c.requires.place_lt_week_p)) l.invariant
 
 pub loop-at-preserved : goal.loop-at-preserved
 loop-at-preserved c =
     let l = c.loop-at in
-    let a = c.args in (
-      omega arith,
-      omega arith,
-      filled_next a.from l.at l.x2a l.x2b l.line l.invariant.0 (omega (arith, c.requires.place_lt_week_p)) l.invariant.2
-          c.step_x2a-x2a.result c.step_x2b-x2b.result c.next_line-line.result
-          c.step_x2a-x2a.ensures c.step_x2b-x2b.ensures c.next_line-line.ensures,
-    )
+    let a = c.args in
+    filled_next a.from l.at l.x2a l.x2b l.line (omega arith) (omega (arith, c.requires.place_lt_week_p)) l.invariant
+    c.step-x2a.result c.step-x2b.result c.next_line-line.result
+    (rw c.start_x2a.ensures at c.step-x2a.ensures) (rw c.start_x2b.ensures at c.step-x2b.ensures) c.next_line-line.ensures
 
 pub returns : goal.returns
 returns c =
     let l = c.loop-at in
     let a = c.args in
     let end : l.at ≡ a.place = omega arith in
-    subst (λ (w : ℕ). Filled a.from w (record { third = l.x2a; fourth = l.x2b; delay = l.line })) end l.invariant.2
+    subst (λ (w : ℕ). Filled a.from w (record { third = l.x2a; fourth = l.x2b; delay = l.line })) end l.invariant

@@ -16,5 +16,5 @@ returns c =
     c.plain_at.ensures
     ∙ plain_landed_lem week_l2 none (cl a.start) (idle week_l2) course_cl _ a.signal a.prn a.place h _ _ _
     (c.fresh_generator.ensures ∙ sym (lacking_at week_l2 a.place h))
-    (ap (λ (x : Brought). x.generator) c.seek_cl-cl.ensures)
-    (omega (arith, ap (λ (x : Brought). x.count) c.seek_cl-cl.ensures, none_made week_l2 a.place))
+    (ap (λ (x : Brought). x.generator) c.seek-cl.ensures)
+    (omega (arith, ap (λ (x : Brought). x.count) c.seek-cl.ensures, none_made week_l2 a.place))

@@ -15,6 +15,6 @@ returns c =
     let h = c.requires.place_lt_week_l2 in
     c.plain_at.ensures
     ∙ plain_landed_lem week_l2 (cm a.start) none course_cm (idle week_l2) _ a.signal a.prn a.place h _ _ _
-    (ap (λ (x : Brought). x.generator) c.seek_cm-cm.ensures)
+    (ap (λ (x : Brought). x.generator) c.seek-cm.ensures)
     (c.fresh_generator.ensures ∙ sym (lacking_at week_l2 a.place h))
-    (omega (arith, ap (λ (x : Brought). x.count) c.seek_cm-cm.ensures, none_made week_l2 a.place))
+    (omega (arith, ap (λ (x : Brought). x.count) c.seek-cm.ensures, none_made week_l2 a.place))

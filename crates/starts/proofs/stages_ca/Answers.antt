@@ -21,8 +21,8 @@ unpacked pair a b h e =
 pub returns : goal.returns
 unfolding stages_of pair_at
 returns c =
-    let prn = c.args.prn in
+    let prn = c.args.prn.number in
     let n = prn - 1 in
     let place : n / 8 * 8 + n % 8 ≡ n = omega arith in
     let pair = c.pairs.ensures.pair (n % 8) (omega arith) ∙ ap pair_at place in
-    unpacked _ (get_or stages_ca (n * 2) 0) (get_or stages_ca (n * 2 + 1) 0) (second_in prn c.requires).last pair
+    unpacked _ (get_or stages_ca (n * 2) 0) (get_or stages_ca (n * 2 + 1) 0) (second_in prn c.args.prn.listed).last pair

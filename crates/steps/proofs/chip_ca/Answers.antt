@@ -8,13 +8,13 @@ pub stage_of-requires-2 : goal.stage_of-requires-2
 stage_of-requires-2 c =
     let start = c in
     let k = first_in c.args.ch.prn c.requires.listed in
-    rw c.requires.stages_value record { le_k = k.first; k_bound = omega arith }
+    rw c.requires.stages_value record { from_first_stage = k.first; to_stage_32 = omega arith }
 
 pub stage_of-requires-3 : goal.stage_of-requires-3
 stage_of-requires-3 c =
     let start = c in
     let k = second_in c.args.ch.prn c.requires.listed in
-    rw c.requires.stages_value record { le_k = k.first; k_bound = omega arith }
+    rw c.requires.stages_value record { from_first_stage = k.first; to_stage_32 = omega arith }
 
 pub returns : goal.returns
 returns c =

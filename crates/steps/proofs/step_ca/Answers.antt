@@ -10,4 +10,4 @@ returns c =
     let start = c in
     let ch = c.args.ch in
     c.plain_step.ensures
-    ∙ plain_is (signal_ca ch.prn).week g1 g2 (signal_ca ch.prn).chip _ _ ch c.requires c.step_g1-first.ensures (λ e. c.step_g2-second.ensures)
+    ∙ plain_is (signal_ca ch.prn).week g1 g2 (signal_ca ch.prn).chip _ _ ch c.requires (rw c.start_g1.ensures at c.step-first.ensures) (λ e. rw c.start_g2.ensures at c.step-second.ensures)

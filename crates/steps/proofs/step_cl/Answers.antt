@@ -13,4 +13,4 @@ returns c =
     let ch = c.args.ch in
     let ok = c.requires in
     c.plain_step.ensures
-    ∙ plain_is (from_cl c.args.start).week none (cl c.args.start) chip_cl _ _ ch ok (lacking_stays false ch.first ok.first_in) (λ e. c.step_cl-second.ensures)
+    ∙ plain_is (from_cl c.args.start).week none (cl c.args.start) chip_cl _ _ ch ok (lacking_stays false ch.first ok.first_in) (λ e. c.step-second.ensures)

@@ -12,4 +12,4 @@ returns c =
     let ch = c.args.ch in
     let ok = c.requires in
     c.plain_step.ensures
-    ∙ plain_is (from_cm c.args.start).week (cm c.args.start) none chip_cm _ _ ch ok c.step_cm-first.ensures (λ e. lacking_stays e ch.second ok.second_in)
+    ∙ plain_is (from_cm c.args.start).week (cm c.args.start) none chip_cm _ _ ch ok c.step-first.ensures (λ e. lacking_stays e ch.second ok.second_in)

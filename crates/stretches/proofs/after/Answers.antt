@@ -4,7 +4,7 @@ use Rattle.stretches.proofs.after.Goals as goal
 
 pub register_at-requires : goal.register_at-requires
 register_at-requires c =
-    record { q_in_bounds = c.requires.within.in_table c.in-Running.is; le_width = c.requires.le_width; width_bound = c.requires.width_bound }
+    record { chip_in_sequence = c.requires.within.in_table c.in-Running.is; some_stage = c.requires.some_stage; stages_of_register = c.requires.stages_of_register }
 
 pub overflow_sub-result : goal.overflow_sub-result
 overflow_sub-result c =

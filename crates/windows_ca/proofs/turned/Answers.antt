@@ -1,10 +1,14 @@
 -- `windows_ca::turned` meets its contract.
 -- Assumes nothing.
 use Prim.Native.Nat.{ℕ, ◌+◌, ◌%◌}
-use mathlib.Core.Path.{ap}
+use mathlib.Core.Path.{◌≡◌, ap}
+use native.Mathlib.Omega.{arith}
 use Rattle.windows_ca.specs.Periods.{in_cycle}
 use Rattle.windows_ca.proofs.turned.Goals as goal
 
 pub returns : goal.returns
 returns c =
-    ap (λ (r : ℕ). in_cycle r ((c.args.g.phase + c.args.n) % 1023)) c.register_at.ensures
+    let n = c.args.n in
+    let p = c.args.g.phase in
+    let round : (p + n % 1023) % 1023 ≡ (p + n) % 1023 = omega arith in
+    rw round (ap (λ (r : ℕ). in_cycle r ((p + n) % 1023)) (rw round at c.register_at.ensures))

@@ -1,0 +1,2 @@
+-- What a type owes that stands for a kind of generator.
+pub mod Codes

@@ -1,0 +1,2 @@
+-- What the contracts of `layout` cite.
+pub mod Coder

@@ -1,0 +1,15 @@
+-- `leap_tables::leap` meets its contract, by the law of leaps.
+-- Assumes nothing.
+use Rattle.leaps.proofs.LawOfLeaps.{by_table}
+use Rattle.leap_tables.proofs.leap.Goals as goal
+
+pub leap_to-requires : goal.leap_to-requires
+leap_to-requires g c =
+    let t = c.table.ensures in
+    let w = c.requires in
+    record { long = t.long; few = t.few; phase_in = rw t.rows_are w.phase_in; count_in = w.count_in }
+
+pub returns : goal.returns
+returns g c =
+    let t = c.table.ensures in
+    by_table (rw t.width_is g.met.R.Leaping.linear) _ _ t.right (rw (t.width_is, t.rows_are) c.requires) c.leap_to.ensures

@@ -1,0 +1,2 @@
+-- What a table of leaps is.
+pub mod Tables

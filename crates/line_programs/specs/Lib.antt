@@ -1,0 +1,2 @@
+-- What a program has written of what it is to say.
+pub mod Talks

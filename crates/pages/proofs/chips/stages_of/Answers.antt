@@ -1,8 +1,0 @@
--- `pages::chips::stages_of` does nothing undefined and ends.
--- Assumes nothing.
-use lib.ListN.{length-set}
-use borrow.Author.Rules.{rules}
-use Rattle.pages.proofs.chips.stages_of.Goals as goal
-
-pub loop-i-preserved : goal.loop-i-preserved
-loop-i-preserved c = simp length-set (search rules)

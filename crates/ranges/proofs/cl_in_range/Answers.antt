@@ -1,6 +1,0 @@
--- `ranges::cl_in_range` meets its contract.
--- Assumes nothing.
-use Rattle.ranges.proofs.cl_in_range.Goals as goal
-
-pub returns : goal.returns
-returns c = simp (c.plain_in_range.ensures, c.generator_in_range-second.ensures, c.lacking.ensures)

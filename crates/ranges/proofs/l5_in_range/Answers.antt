@@ -1,7 +1,0 @@
--- `ranges::l5_in_range` meets its contract.
--- Assumes nothing.
-use Rattle.ranges.proofs.l5_in_range.Goals as goal
-
-pub returns : goal.returns
-returns c =
-    simp (c.plain_in_range.ensures, c.generator_in_range-first.ensures, c.generator_in_range-second.ensures, c.last_xa-last_xa.ensures, c.last_xb-last_xb.ensures)

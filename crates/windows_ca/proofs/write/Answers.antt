@@ -1,0 +1,2 @@
+-- `windows_ca::write` meets its contract.
+-- Assumes nothing.

@@ -1,7 +1,0 @@
--- `windows_p::run_by_tables` meets its contract.
--- Assumes nothing.
-use Rattle.windows_p.proofs.run_by_tables.Goals as goal
-
-pub returns-then-fitting : goal.returns-then-fitting
-returns-then-fitting c =
-    (c.run_of-n.ensures.0, (c.run_of-n.ensures.1, λ some. c.fitting.ensures c.if-fitting.true))
