@@ -35,7 +35,6 @@ pub struct Ca {
     pub stages: Stages,
 }
 
-// A channel keeps its PRN as a number, so here and below a number comes, and that it is listed as a clause.
 impl Ca {
     pub fn of(prn: Prn) -> Ca
         ensures { result.stages ≡ stages_of prn.number }

@@ -1,2 +1,0 @@
--- `windows_ca::write` meets its contract.
--- Assumes nothing.
