@@ -34,9 +34,11 @@ fn append_chips<const N: usize>(chips: &[u8], out: &mut ArrayVec<u8, N>)
     }
 }
 
-// `ok CH`: a channel of any field values. 448 bytes of room are enough.
+// The next six are of one shape: a type of words would take a text, a room and an arm for each of four kinds, and these take their calls alone.
+
+// `ok CH`: a channel of any field values.
 pub fn ok_channel<const N: usize>(ch: Channel, out: &mut ArrayVec<u8, N>)
-    requires { array_vec_len out.old + 448 ≤ N }
+    requires { array_vec_len out.old + ROOM ≤ N }
     ensures { out.new.items ≡ out.old.items ++ ok (channel_word 10 ch) }
 {
     texts::append(b"ok ", out);
@@ -45,7 +47,7 @@ pub fn ok_channel<const N: usize>(ch: Channel, out: &mut ArrayVec<u8, N>)
 
 // `ok N CH`: any number, and a channel of any field values.
 pub fn ok_number_channel<const N: usize>(n: u64, ch: Channel, out: &mut ArrayVec<u8, N>)
-    requires { array_vec_len out.old + 469 ≤ N }
+    requires { array_vec_len out.old + ROOM ≤ N }
     ensures { out.new.items ≡ out.old.items ++ ok (number_word 32 n ++ channel_word 10 ch) }
 {
     texts::append(b"ok ", out);
@@ -65,7 +67,7 @@ pub fn ok_channel_chips<const N: usize>(ch: Channel, chips: &[u8], out: &mut Arr
 
 // `ok N`: any number.
 pub fn ok_number<const N: usize>(n: u64, out: &mut ArrayVec<u8, N>)
-    requires { array_vec_len out.old + 24 ≤ N }
+    requires { array_vec_len out.old + ROOM ≤ N }
     ensures { out.new.items ≡ out.old.items ++ ok (number_word 10 n) }
 {
     texts::append(b"ok ", out);
@@ -74,7 +76,7 @@ pub fn ok_number<const N: usize>(n: u64, out: &mut ArrayVec<u8, N>)
 
 // `ok N M`: any two numbers.
 pub fn ok_numbers<const N: usize>(n: u64, m: u64, out: &mut ArrayVec<u8, N>)
-    requires { array_vec_len out.old + 45 ≤ N }
+    requires { array_vec_len out.old + ROOM ≤ N }
     ensures { out.new.items ≡ out.old.items ++ ok (number_word 32 n ++ number_word 10 m) }
 {
     texts::append(b"ok ", out);
@@ -84,7 +86,7 @@ pub fn ok_numbers<const N: usize>(n: u64, m: u64, out: &mut ArrayVec<u8, N>)
 
 // `ok N`: any number of 64 bits with its sign, a `-` or nothing.
 pub fn ok_signed<const N: usize>(n: i64, out: &mut ArrayVec<u8, N>)
-    requires { array_vec_len out.old + 25 ≤ N }
+    requires { array_vec_len out.old + ROOM ≤ N }
     ensures { out.new.items ≡ out.old.items ++ ok (signed_word n) }
 {
     texts::append(b"ok ", out);
@@ -126,13 +128,13 @@ pub fn hand_back(last: &mut Option<Channel>, ch: Channel)
 
 // A line that is no command.
 pub fn error<const N: usize>(out: &mut ArrayVec<u8, N>)
-    requires { array_vec_len out.old + 6 ≤ N }
+    requires { array_vec_len out.old + ROOM ≤ N }
     ensures { out.new.items ≡ out.old.items ++ error_line }
 {
     texts::append(b"error\n", out);
 }
 
-// Whether a line asks for a buffer that is longer than any.
+// Whether a line asks for a buffer of more than 131,072 bytes, longer than any.
 pub fn too_long(bytes: u64) -> bool
     ensures { result ≡ ltb most_length bytes }
 {

@@ -5,8 +5,6 @@ ghost use Rattle.std.specs.Prelude.{◌≡◌};
 ghost use Rattle.call_step.specs.Step.{of_stepped, step_reply};
 
 use machine::Channel;
-use ranges::InRange;
-use refusals::Refusal;
 use replies::Refused;
 
 // The chip at the place where the channel came, 0 or 1, and the channel one step on.
@@ -16,18 +14,12 @@ pub struct Stepped {
     pub channel: Channel,
 }
 
-// The present chip, and the channel one step on. Tried with `ranges::judge(ch)?`: a single step takes 6 to 8 % longer.
+// The present chip, and the channel one step on; refusal 4, with the channel as it came, where a field is out of range.
 #[tactic(auto, unfolding(crate::specs::Step::step_reply))]
 pub fn step(ch: Channel) -> Result<Stepped, Refused>
     ensures { of_stepped result ≡ step_reply ch }
 {
-    if !ranges::in_range(ch) {
-        return Err(Refused {
-            refusal: Refusal::Channel,
-            channel: ch,
-        });
-    }
-    let ch = InRange::of(ch);
+    let ch = ranges::judge(ch)?;
     let chip = steps::chip_of(ch);
     let channel = steps::step_of(ch).channel;
     Ok(Stepped { chip, channel })

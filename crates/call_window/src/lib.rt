@@ -10,7 +10,7 @@ use refusals::Refusal;
 use replies::Refused;
 
 // The chips that count steps would give, written to the buffer from `at` onward, and the channel moved by them. The sum of `at` and count is never formed, so
-// it cannot wrap.
+// it cannot wrap. Count, buffer and `at` are the call's own arguments, and refusals 5 and 6 are about them.
 #[tactic(auto, unfolding(crate::specs::Window::window_reply))]
 pub fn window(ch: Channel, count: u64, buffer: &mut [u8], at: u64) -> Result<Channel, Refused>
     ensures { of_windowed count at buffer.new result ≡ window_reply ch count buffer.old at }

@@ -17,7 +17,8 @@ use arrayvec::ArrayVec;
 use engine::Refused;
 use machine::Channel;
 
-// The calls are of one shape: each names its call and its line, which one for all would be handed.
+// The calls are of one shape: each names its call and its line, which one for all would be handed. What `.` stands for and the text are two loans of different
+// owners, which a struct of both would borrow for each call.
 
 // Opens a channel, and `.` stands for it from then on: `ok CH`, or the refusal of a signal or a PRN. Any two numbers.
 pub fn open<const N: usize>(
@@ -26,7 +27,7 @@ pub fn open<const N: usize>(
     last: &mut Option<Channel>,
     out: &mut ArrayVec<u8, N>,
 )
-    requires { array_vec_len out.old + 448 ≤ N }
+    requires { array_vec_len out.old + ROOM ≤ N }
     ensures text { out.new.items ≡ out.old.items ++ open_line (open_reply signal prn) }
     ensures dot { last.new ≡ opened_last last.old (open_reply signal prn) }
 {
@@ -41,7 +42,7 @@ pub fn open<const N: usize>(
 
 // A refused call hands back the channel as it came.
 fn refuse<const N: usize>(refused: Refused, last: &mut Option<Channel>, out: &mut ArrayVec<u8, N>)
-    requires { array_vec_len out.old + 10 ≤ N }
+    requires { array_vec_len out.old + ROOM ≤ N }
     ensures text { out.new.items ≡ out.old.items ++ refused_line (number_of refused.refusal) }
     ensures dot { last.new ≡ handed_back last.old refused.channel }
 {
@@ -56,7 +57,7 @@ pub fn seek<const N: usize>(
     last: &mut Option<Channel>,
     out: &mut ArrayVec<u8, N>,
 )
-    requires { array_vec_len out.old + 469 ≤ N }
+    requires { array_vec_len out.old + ROOM ≤ N }
     ensures text { out.new.items ≡ out.old.items ++ seek_line (seek_reply ch place) }
     ensures dot { last.new ≡ handed_back last.old (seek_reply ch place).channel }
 {
@@ -72,7 +73,7 @@ pub fn seek<const N: usize>(
 
 // A channel's chip, and the channel one step on: `ok CHIP CH`, or the refusal of a channel out of range. Any field values.
 pub fn step<const N: usize>(ch: Channel, last: &mut Option<Channel>, out: &mut ArrayVec<u8, N>)
-    requires { array_vec_len out.old + 469 ≤ N }
+    requires { array_vec_len out.old + ROOM ≤ N }
     ensures text { out.new.items ≡ out.old.items ++ step_line (step_reply ch) }
     ensures dot { last.new ≡ handed_back last.old (step_reply ch).channel }
 {
@@ -108,7 +109,7 @@ fn window_on<const N: usize>(
     }
 }
 
-// A window on a buffer of so many bytes, each 0. Inlined, it would have every byte of a session pay for its stack.
+// A window on a buffer of so many bytes, each 0. Chips has one like it: one for both would take what is done with the buffer as a closure. Inlined, it would have every byte of a session pay for its stack.
 #[inline(never)]
 pub fn window<const N: usize>(
     ch: Channel,

@@ -7,15 +7,18 @@ ghost use Rattle.std.specs.Io.KnownBytes.{Appends};
 ghost use Rattle.streams.specs.Stream.{answers};
 
 use arrayvec::ArrayVec;
-use line_programs::Failed;
+use line_programs::{CHUNK, Dialog, Failed};
 use std::io::{Read, Write};
-use streams::Stream;
+use streams::{Replies, Stream};
 
 // Reads and answers all of the input.
 fn answer_all<R: Read, W: Write>(input: &mut R, output: &mut W) -> Result<(), Failed>
     ensures { OnOk result (IfSome (R.remaining input.old) (λ bytes. Appends (W.contents output.old) (W.contents output.new) (answers bytes))) }
 {
-    line_programs::answer_all(&mut Stream::new(), &mut ArrayVec::new(), input, output)
+    let mut stream: Stream = Dialog::new(Replies, ());
+    // It has room for a reply, and behind it for many more.
+    let mut out = ArrayVec::<u8, CHUNK>::new();
+    line_programs::answer_all(&mut stream, &mut out, input, output)
 }
 
 // Who gives arguments, --help among them, is told what it does, and nothing is read. Where standard error can't be written either, nobody is told.

@@ -59,8 +59,7 @@ fn three_arguments(text: &[u8]) -> Option<(u64, u64, u64)>
     Some((first, second, third))
 }
 
-// A reader for each command, by the definition of its name: where two are of one shape they differ in the command that they name, and one for both would be
-// handed that.
+// A reader for each command. Two of one shape differ in the command that they name, and one for both would be handed a closure as long as each body.
 #[tactic(auto, unfolding(crate::specs::Commands::read_open))]
 fn read_open(text: &[u8]) -> Option<Command>
     ensures { result ≡ read_open text.now }

@@ -8,13 +8,12 @@ ghost use Rattle.std.specs.Io.KnownBytes.{Appends};
 ghost use Rattle.sessions.specs.Sessions.{output as whole_output};
 
 use arrayvec::ArrayVec;
-use line_programs::Failed;
-use sessions::Session;
+use line_programs::{Dialog, Failed};
+use sessions::{Console, OUT, Session};
 use std::io::{IsTerminal, Read, Write};
 
 // What `help` is answered.
-fn help() -> [u8; 1400] {
-    *b"open S P                    ok CH            a channel at place 0
+const HELP: &[u8] = b"open S P                    ok CH            a channel at place 0
 seek CH PLACE               ok LEAPS CH      that channel at a place
 step CH                     ok CHIP CH       its chip, and the channel one step on
 window CH COUNT LENGTH AT   ok CH CHIPS      COUNT chips, written from AT on into LENGTH bytes
@@ -37,8 +36,7 @@ refused N   1 signal, 2 PRN, 3 place, 4 channel out of range, 5 too many chips,
 error       no such command: a word or a number is wrong, missing or too many
 
 For example: open 2 1, then seek . 15344999, window . 10 10 0, step .
-"
-}
+";
 
 // Reads and answers all of the input.
 #[tactic(auto, using(sessions::proofs::EverySession::every_input))]
@@ -46,7 +44,9 @@ fn answer_all<R: Read, W: Write>(help: &[u8], input: &mut R, output: &mut W) -> 
     requires { length help.now ≤ 66048 }
     ensures { OnOk result (IfSome (R.remaining input.old) (λ bytes. Appends (W.contents output.old) (W.contents output.new) (whole_output help.now bytes))) }
 {
-    line_programs::answer_all(&mut Session::new(help), &mut ArrayVec::new(), input, output)
+    let mut session: Session = Dialog::new(Console { help }, None);
+    let mut out = ArrayVec::<u8, OUT>::new();
+    line_programs::answer_all(&mut session, &mut out, input, output)
 }
 
 // Who gives arguments, --help among them, is told what it does, and nothing is read. Who types the lines is told where to begin. Where standard error can't be
@@ -63,7 +63,7 @@ fn main(rt: HostRuntime) {
             "One command a line: open 2 1, say, and then step . (help lists them, Ctrl-D ends)"
         );
     }
-    if let Err(failed) = answer_all(&help(), &mut rt.stdin(), &mut rt.stdout()) {
+    if let Err(failed) = answer_all(HELP, &mut rt.stdin(), &mut rt.stdout()) {
         let _ = eprintln!(rt; "console: {failed}");
     }
 }

@@ -5,7 +5,7 @@ ghost use Rattle.std.specs.Prelude.{◌≡◌, ◌+◌, ◌-◌, ◌*◌, ◌/�
 ghost use Rattle.starts.specs.Starts.{Listed};
 ghost use Rattle.delay_lines.specs.Lines.{delayed_word};
 
-// The 64 chips that P takes next of X2: the delay line's last bits, then X2's next chips.
+// The 64 chips that P takes next of X2: the delay line's last bits, then X2's next chips. A channel has its PRN as a number, so that it is listed is a clause.
 pub fn delayed(line: u64, x2: u64, prn: u32) -> u64
     requires { Listed 37 prn }
     ensures { result ≡ delayed_word line x2 prn }

@@ -38,7 +38,7 @@ fn all_digits(s: &[u8]) -> bool
     s.iter().all(|b| is_digit(*b))
 }
 
-// What a digit stands for.
+// What a digit of ASCII stands for, 0 to 9. It takes any byte from `0` on.
 pub fn digit_value(b: u8) -> u64
     requires { 48 ≤ b }
     ensures { result ≡ b - 48 }

@@ -1,10 +1,17 @@
 -- What a type owes that stands for a kind of generator.
 -- Assumes nothing.
-use Rattle.std.specs.Prelude.{ℕ, ◌^◌, ◌<◌, ◌≡◌, Bool, false, None, Some}
+use Rattle.std.specs.Prelude.{ℕ, ◌≤◌, ◌≡◌, Bool, true, false, None, Some}
 use Rattle.machine.specs.Generators.{Kind, held_at, held_at_end}
+use Rattle.machine.specs.declared.Generator.{Generator}
 use Rattle.machine.specs.declared.Mode.{Mode}
 use Rattle.machine.specs.declared.Mode.TheVariants.{Running}
+use Rattle.generators.specs.declared.Cycle.{Cycle}
 use Rattle.generators.specs.declared.Hold.{Hold}
+
+-- a generator stands in a cycle
+pub record Stands (c : Cycle) (g : Generator) : Type 0 where
+  pub phase_in : g.phase ≤ c.last
+  pub cycles_in : g.cycles ≤ c.highest
 
 -- the mode on arrival at a phase in a cycle, where the test says whether the week ends
 abbrev pub arrival_of : Hold → Bool → ℕ → ℕ → Mode
@@ -20,4 +27,5 @@ pub record NeverHeld (k : Kind) : Type 0 where
 
 -- held by a hold and no other
 pub record HeldBy (k : Kind) (h : Hold) : Type 0 where
+  pub holds : k.holds ≡ true
   pub arrives : (weekEnd : Bool) (phase cycles : ℕ) → k.arrival weekEnd phase cycles ≡ arrival_of h weekEnd phase cycles

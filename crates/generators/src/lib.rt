@@ -7,7 +7,7 @@ ghost use Rattle.machine.specs.declared.Mode.TheVariants.{Running};
 ghost use Rattle.machine.specs.Generators.{Kind, fresh, restarted, moved, held_with, step_in, step_generator, held_at};
 ghost use Rattle.machine.specs.Signals.{g1, g2, x1a, x1b, x2a, x2b, cm, cl, xa, xb};
 ghost use Rattle.machine.specs.Ranged.{RangedKind};
-ghost use Rattle.generators.specs.Codes.{arrival_of, NeverHeld, HeldBy};
+ghost use Rattle.generators.specs.Codes.{Stands, arrival_of, NeverHeld, HeldBy};
 
 use leap_tables::Leaping;
 use machine::{Generator, Mode};
@@ -27,18 +27,6 @@ pub fn fresh_generator(start: u32, cycles: u32) -> Generator
     }
 }
 
-// At the end of a cycle: the next one begins, and the cycles rise or return to 0.
-fn restart(g: Generator, start: u32, highest: u32) -> Generator
-    requires { g.cycles ≤ highest }
-    ensures { result ≡ restarted start highest g }
-{
-    if g.cycles == highest {
-        fresh_generator(start, 0)
-    } else {
-        fresh_generator(start, g.cycles + 1)
-    }
-}
-
 // One chip on in its cycle.
 pub fn move_on(g: Generator, shifted: u32, arrival: Mode) -> Generator
     requires { g.phase + 1 < 2 ^ 32 }
@@ -47,8 +35,8 @@ pub fn move_on(g: Generator, shifted: u32, arrival: Mode) -> Generator
     Generator {
         register: shifted,
         phase: g.phase + 1,
-        cycles: g.cycles,
         mode: arrival,
+        ..g
     }
 }
 
@@ -57,54 +45,53 @@ fn held_with(g: Generator, chips: u32) -> Generator
     ensures { result ≡ held_with chips g }
 {
     Generator {
-        register: g.register,
-        phase: g.phase,
-        cycles: g.cycles,
         mode: Mode::Held(chips),
+        ..g
     }
 }
 
-// The step of a generator that is never held, given its register after a shift. Apart from the next: one function for both, with a match on the hold
-// outside, takes a tenth more time in a seek of P.
-fn step_running(g: Generator, shifted: u32, start: u32, last: u32, highest: u32) -> Generator
-    requires phase_in { g.phase ≤ last }
-    requires cycles_in { g.cycles ≤ highest }
-    ensures { result ≡ step_in Running shifted start last highest Running g }
-{
-    if g.phase == last {
-        restart(g, start, highest)
-    } else {
-        move_on(g, shifted, Mode::Running)
-    }
-}
-
-// The step of a generator that may be held, given its register after a shift and its mode on arrival at the next phase.
-fn step_held(
-    g: Generator,
-    shifted: u32,
+// A cycle of a generator: where it begins, its last phase, and the highest number of cycles finished.
+#[derive(Clone, Copy, Debug, PartialEq, Eq)]
+struct Cycle {
     start: u32,
     last: u32,
     highest: u32,
-    arrival: Mode,
-) -> Generator
-    requires phase_in { g.phase ≤ last }
-    requires cycles_in { g.cycles ≤ highest }
-    ensures { result ≡ step_in g.mode shifted start last highest arrival g }
-{
-    match g.mode {
-        Mode::Running => {
-            if g.phase == last {
-                restart(g, start, highest)
-            } else {
-                move_on(g, shifted, arrival)
-            }
+}
+
+impl Cycle {
+    // At its end: the next one begins, and the cycles rise or return to 0.
+    fn restart(self, g: Generator) -> Generator
+        requires { g.cycles ≤ self.highest }
+        ensures { result ≡ restarted self.start self.highest g }
+    {
+        if g.cycles == self.highest {
+            fresh_generator(self.start, 0)
+        } else {
+            fresh_generator(self.start, g.cycles + 1)
         }
-        Mode::Held(h) => {
-            if h == 0 {
-                fresh_generator(start, 0)
-            } else {
-                held_with(g, h - 1)
-            }
+    }
+
+    // The step of a generator that runs, given its register after a shift and its mode on arrival at the next phase.
+    fn step_running(self, g: Generator, shifted: u32, arrival: Mode) -> Generator
+        requires { Stands self g }
+        ensures { result ≡ step_in Running shifted self.start self.last self.highest arrival g }
+    {
+        if g.phase == self.last {
+            self.restart(g)
+        } else {
+            move_on(g, shifted, arrival)
+        }
+    }
+
+    // The same of one that may be held.
+    fn step_held(self, g: Generator, shifted: u32, arrival: Mode) -> Generator
+        requires { Stands self g }
+        ensures { result ≡ step_in g.mode shifted self.start self.last self.highest arrival g }
+    {
+        match g.mode {
+            Mode::Running => self.step_running(g, shifted, arrival),
+            Mode::Held(0) => fresh_generator(self.start, 0),
+            Mode::Held(chips) => held_with(g, chips - 1),
         }
     }
 }
@@ -155,7 +142,8 @@ impl Hold {
 
 // ---- a generator's constants
 
-// But for its start, which the PRN may decide.
+// But for its start, which the PRN may decide. `highest` and `hold` are functions with a clause: an associated constant takes the constant, a ghost of it
+// and a law.
 pub trait Code {
     // Its register.
     type Stages: Leaping;
@@ -186,12 +174,16 @@ pub fn step<C: Code>(g: Generator, start: u32, week_end: bool) -> Generator
     ensures { result ≡ step_generator (record C.kind { start = start }) week_end g }
 {
     let shifted = C::Stages::shift(g.register);
-    let last = C::last(g.cycles);
+    let cycle = Cycle {
+        start,
+        last: C::last(g.cycles),
+        highest: C::highest(),
+    };
     match C::hold() {
-        None => step_running(g, shifted, start, last, C::highest()),
+        None => cycle.step_running(g, shifted, Mode::Running),
         Some(hold) => {
             let arrival = hold.arrival(week_end, g.phase + 1, g.cycles);
-            step_held(g, shifted, start, last, C::highest(), arrival)
+            cycle.step_held(g, shifted, arrival)
         }
     }
 }
@@ -251,7 +243,7 @@ pub const HOLD_X2A: u32 = 37;
 
 pub const HOLD_X2B: u32 = 380;
 
-const WEEK_END_HOLD_X2A: u32 = 1_069;
+pub const WEEK_END_HOLD_X2A: u32 = 1_069;
 
 const WEEK_END_HOLD_X2B: u32 = 965;
 
@@ -360,6 +352,7 @@ impl Code for X2B {
 
 // ---- L2 CM and L2 CL
 
+#[derive(Clone, Copy, Debug, PartialEq, Eq)]
 pub struct Cm;
 
 impl Code for Cm {
@@ -384,6 +377,7 @@ impl Code for Cm {
     }
 }
 
+#[derive(Clone, Copy, Debug, PartialEq, Eq)]
 pub struct Cl;
 
 impl Code for Cl {
@@ -452,19 +446,4 @@ impl Code for XB {
     fn hold() -> Option<Hold> {
         None
     }
-}
-
-// The last phase of XA's cycle: `XA::last` by a name, for a range test and a window that know no trait. Apart from the next: the name of the register is
-// all that they say.
-pub fn last_xa(cycles: u32) -> u32
-    ensures { result ≡ xa.last cycles }
-{
-    XA::last(cycles)
-}
-
-// The same of XB, whatever its start.
-pub fn last_xb(cycles: u32) -> u32
-    ensures { result ≡ (xb 0).last cycles }
-{
-    XB::last(cycles)
 }

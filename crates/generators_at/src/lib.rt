@@ -5,7 +5,7 @@ ghost use Rattle.std.specs.Prelude.{◌≡◌, ◌<◌, ◌≤◌, ◌^◌};
 ghost use Rattle.week.specs.Standing.{on, in_period, standing_at};
 ghost use Rattle.generators_at.specs.Inner.{Fits, placed_as, brought, Asked};
 
-use leaps::Leapt;
+use leaps::Counted;
 use machine::{Generator, Mode};
 use week::{Course, Coursed, Standing};
 
@@ -55,38 +55,31 @@ fn standing(c: Course, place: u64) -> Standing
 
 // ---- a generator at a place
 
-// A generator, and how many leaps were made to bring it, and those before it, where they are.
-#[derive(Clone, Copy, Debug, PartialEq, Eq)]
-pub struct Brought {
-    pub generator: Generator,
-    pub count: u32,
-}
-
 // A generator where it stands, with its register brought there.
-fn placed(at: Standing, leapt: Leapt) -> Brought
-    ensures { result ≡ placed_as at leapt }
+fn placed(at: Standing, register: Counted<u32>) -> Counted<Generator>
+    ensures { result ≡ placed_as at register }
 {
-    let generator = Generator {
-        register: leapt.register,
+    let value = Generator {
+        register: register.value,
         phase: at.phase,
         cycles: at.cycles,
         mode: at.mode,
     };
-    Brought {
-        generator,
-        count: leapt.count,
+    Counted {
+        value,
+        count: register.count,
     }
 }
 
-// A generator at a place, brought there from its start, which may depend on the PRN.
-pub fn seek<C: Coursed>(start: u32, place: u64, count: u32) -> Brought
+// A generator at a place of its week, brought there by leaps from its start, which may depend on the PRN. The count goes on from the leaps made before.
+pub fn seek<C: Coursed>(start: u32, place: u64, count: u32) -> Counted<Generator>
     requires start_in { start < 2 ^ C.kind.width }
     requires asked { Asked C.course.week place count }
     ensures { result ≡ brought (record C.kind { start = start }) C.course place count }
 {
     let at = standing(C::course(), place);
-    let from = Leapt {
-        register: start,
+    let from = Counted {
+        value: start,
         count,
     };
     placed(at, leap_tables::leap::<C::Stages>(from, at.phase))

@@ -5,7 +5,7 @@ ghost use Rattle.std.specs.Prelude.{◌≡◌, length};
 ghost use Rattle.gps_chips.specs.Chips.{chips_answer, chips_buffer, by_the_machine, by_the_standards};
 
 // Fills the whole buffer with the chips of a signal and a PRN from a place on, round the week. Answers 0, or the refusal: 1, 2, 3, or 5 for the
-// length. Refused, no byte changes.
+// length. Refused, no byte changes. A number and no `Result`: so C's header declares it.
 #[unsafe(no_mangle)]
 pub extern "C" fn gps_chips(signal: u64, prn: u64, place: u64, buffer: &mut [u8]) -> u32
     ensures answer { result ≡ chips_answer signal prn place (length buffer.old) }

@@ -1,2 +1,3 @@
--- What a program has written of what it is to say.
+-- What a program that answers lines says, and what it has written of that.
+pub mod Dialogs
 pub mod Talks

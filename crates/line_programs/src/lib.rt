@@ -1,8 +1,11 @@
-// What the programs that answer lines share: the loop that reads, answers and writes, how they are called, and why one ends before its input does.
+// What the programs that answer lines share: a line as it comes, the loop that reads, answers and writes, how they are called, and why one ends before its
+// input does.
 #![tactic(auto)]
 
-ghost use Rattle.std.specs.Prelude.{◌≡◌, [], ◌∷◌, ◌++◌, ◌≤◌, ◌<◌, ℕ, List, length, drop, IfSome, OnOk};
+ghost use Rattle.std.specs.Prelude.{◌≡◌, [], ◌∷◌, ◌++◌, ◌+◌, ◌≤◌, ◌<◌, ℕ, List, length, take, IfSome, OnOk};
 ghost use Rattle.std.specs.Io.KnownBytes.{Appends};
+ghost use Rattle.arrayvec.specs.ArrayVec.{array_vec_len};
+ghost use Rattle.line_programs.specs.Dialogs.{Course, Laws, stands, says, saying};
 ghost use Rattle.line_programs.specs.Talks.{Says};
 
 use arrayvec::ArrayVec;
@@ -14,6 +17,9 @@ use thiserror::Error;
 // So many bytes are read at once.
 pub const CHUNK: usize = 65_536;
 
+// What ends a line.
+const NEWLINE: u8 = b'\n';
+
 // Why it ended before the input did.
 #[derive(Debug, Drop, Error)]
 pub enum Failed {
@@ -23,38 +29,156 @@ pub enum Failed {
     Output(io::Error),
 }
 
-// What takes bytes and answers them, by a buffer of N bytes. How the bytes are cut changes nothing of what is said.
-pub trait Talk<const N: usize> {
-    // All that is said to the bytes still to come, the end of the input included.
-    ghost answers: { Self → List ℕ → List ℕ };
+// ---- a dialog
 
-    // Takes bytes from a chunk's start, one at least where there is one, and puts what they are answered in an empty buffer. Answers how many it took.
-    fn feed(&mut self, chunk: &[u8], out: &mut ArrayVec<u8, N>) -> usize
-        requires { out.old.items ≡ [] }
-        ensures used { result ≤ length chunk.now }
-        ensures some { 0 < length chunk.now → 0 < result }
-        ensures said { (more : List ℕ) → answers self.old (chunk.now ++ more) ≡ out.new.items ++ answers self.new (drop result chunk.now ++ more) };
-
-    // Puts what the end of the input is answered in an empty buffer.
-    fn finish(&mut self, out: &mut ArrayVec<u8, N>)
-        requires { out.old.items ≡ [] }
-        ensures { out.new.items ≡ answers self.old [] };
+// One byte more of a line, or none where KEPT are kept.
+pub fn keep<const KEPT: usize>(line: &mut ArrayVec<u8, KEPT>, b: u8)
+    ensures { line.new.items ≡ take KEPT (line.old.items ++ b ∷ []) }
+{
+    if !line.is_full() {
+        line.push(b);
+    }
 }
 
+// How a dialog goes in which KEPT bytes of a line are kept at most.
+pub trait Talk<const KEPT: usize> {
+    // What is remembered from line to line.
+    type Memory: Drop;
+
+    // Where a dialog stands, by the line that has no newline yet and the memory, and what it does with bytes.
+    ghost State: { Type 0 };
+
+    ghost state: { List ℕ → Self.Memory → State };
+
+    ghost course: { Self → Course State };
+
+    // So many bytes has the longest answer, and the longest that the input's end brings.
+    ghost room: { ℕ };
+
+    ghost last_room: { ℕ };
+
+    // The bytes of room that any answer fits in. An associated constant would take the constant, a ghost of it and a law; this takes a clause.
+    fn room(&self) -> usize
+        ensures { result ≡ room };
+
+    ghost laws: { (a : Self) → Laws KEPT state (course a) };
+}
+
+// Who answers the lines, by a buffer of N bytes.
+pub trait Answers<const KEPT: usize, const N: usize>: Talk<KEPT> {
+    // The answer to a line, given without its newline, behind what stands there.
+    fn answer(&self, line: &[u8], memory: &mut Self::Memory, out: &mut ArrayVec<u8, N>)
+        requires short { length line.now ≤ KEPT }
+        requires room { array_vec_len out.old + Self.room ≤ N }
+        ensures state { Self.state [] memory.new ≡ (Self.course self.now).kept ((Self.course self.now).next (Self.state line.now memory.old) 10) }
+        ensures said { out.new.items ≡ out.old.items ++ (Self.course self.now).said (Self.state line.now memory.old) 10 };
+
+    // What the input's end says of a line that has begun and lacks its newline, behind what stands there.
+    fn answer_last(&self, line: &[u8], memory: &Self::Memory, out: &mut ArrayVec<u8, N>)
+        requires begun { 0 < length line.now }
+        requires short { length line.now ≤ KEPT }
+        requires room { array_vec_len out.old + Self.last_room ≤ N }
+        ensures { out.new.items ≡ out.old.items ++ (Self.course self.now).last (Self.state line.now memory.now) };
+}
+
+// The line that has no newline yet, or as much of it as is kept, what is remembered from line to line, and who answers: a line of any length takes no more
+// memory.
+#[derive(Clone, Drop)]
+pub struct Dialog<A: Talk<KEPT>, const KEPT: usize> {
+    pub line: ArrayVec<u8, KEPT>,
+    pub memory: A::Memory,
+    pub answerer: A,
+}
+
+impl<A: Talk<KEPT>, const KEPT: usize> Dialog<A, KEPT> {
+    // A dialog that nothing was fed to.
+    pub fn new(answerer: A, memory: A::Memory) -> Self
+        ensures line { result.line.items ≡ [] }
+        ensures memory { result.memory ≡ memory }
+        ensures answerer { result.answerer ≡ answerer }
+    {
+        Dialog {
+            line: ArrayVec::new(),
+            memory,
+            answerer,
+        }
+    }
+
+    // One byte of input: what it says, behind what stands there.
+    fn turn<const N: usize>(&mut self, b: u8, out: &mut ArrayVec<u8, N>)
+    where
+        A: Answers<KEPT, N>,
+        requires room { array_vec_len out.old + A.room ≤ N }
+        ensures answerer { self.new.answerer ≡ self.old.answerer }
+        ensures state { A.state self.new.line.items self.new.memory
+            ≡ (A.course self.old.answerer).kept ((A.course self.old.answerer).next (A.state self.old.line.items self.old.memory) b) }
+        ensures said { out.new.items ≡ out.old.items ++ (A.course self.old.answerer).said (A.state self.old.line.items self.old.memory) b }
+    {
+        if b == NEWLINE {
+            let line = self.line.as_slice();
+            self.answerer.answer(line, &mut self.memory, out);
+            self.line.clear();
+        } else {
+            keep(&mut self.line, b);
+        }
+    }
+
+    // Takes bytes of a chunk as long as there is room for any answer, and puts their answers behind what stands there. Tells how many bytes it took.
+    pub fn feed<const N: usize>(&mut self, input: &[u8], out: &mut ArrayVec<u8, N>) -> usize
+    where
+        A: Answers<KEPT, N>,
+        ensures answerer { self.new.answerer ≡ self.old.answerer }
+        ensures state { A.state self.new.line.items self.new.memory
+            ≡ stands (A.course self.old.answerer) (A.state self.old.line.items self.old.memory) (take result input.now) }
+        ensures said { out.new.items ≡ out.old.items ++ says (A.course self.old.answerer) (A.state self.old.line.items self.old.memory) (take result input.now) }
+        ensures used { result ≤ length input.now }
+        ensures full { result < length input.now → N < array_vec_len out.new + A.room }
+    {
+        // What its length promises tells a proof that all of the line is kept.
+        let _ = self.line.len();
+        for (i, b) in input.iter().enumerate() {
+            if out.remaining_capacity() < self.answerer.room() {
+                return i;
+            }
+            self.turn(*b, out);
+        }
+        input.len()
+    }
+
+    // What the end of the input says, behind what stands there: nothing, or what is said of a last line that lacks its newline.
+    pub fn finish<const N: usize>(&self, out: &mut ArrayVec<u8, N>)
+    where
+        A: Answers<KEPT, N>,
+        requires room { array_vec_len out.old + A.last_room ≤ N }
+        ensures { out.new.items ≡ out.old.items ++ (A.course self.now.answerer).last (A.state self.now.line.items self.now.memory) }
+    {
+        if !self.line.is_empty() {
+            let line = self.line.as_slice();
+            self.answerer.answer_last(line, &self.memory, out);
+        }
+    }
+}
+
+// ---- a program. A dialog, a buffer and an output go along one beside the other: they are loans of different owners, and a struct would borrow all three.
+
 // The answers to a chunk, written as the buffer fills and at the chunk's end, so that someone who types a line sees its answer.
-fn answer<const N: usize, T: Talk<N>, W: Write>(
-    talk: &mut T,
+fn answer<A: Answers<KEPT, N>, const KEPT: usize, const N: usize, W: Write>(
+    dialog: &mut Dialog<A, KEPT>,
     chunk: &[u8],
     out: &mut ArrayVec<u8, N>,
     output: &mut W,
 ) -> io::Result<()>
-    ensures { OnOk result ((more : List ℕ) → Says (W.contents output.old) (W.contents output.new) (T.answers talk.old (chunk.now ++ more)) (T.answers talk.new more)) }
+    requires room { A.room ≤ N }
+    ensures answerer { dialog.new.answerer ≡ dialog.old.answerer }
+    ensures said { OnOk result ((more : List ℕ) → Says (W.contents output.old) (W.contents output.new)
+        (saying (A.course dialog.old.answerer) (A.state dialog.old.line.items dialog.old.memory) (chunk.now ++ more))
+        (saying (A.course dialog.old.answerer) (A.state dialog.new.line.items dialog.new.memory) more)) }
 {
     let mut rest = chunk;
-    // Not a `for`: each turn of the talk says how far it came.
+    // Not a `for`: each turn of the dialog says how far it came.
     while !rest.is_empty() {
         out.clear();
-        let used = talk.feed(rest, out);
+        let used = dialog.feed(rest, out);
         output.write_all(out.as_slice())?;
         rest = &rest[used..];
     }
@@ -62,44 +186,49 @@ fn answer<const N: usize, T: Talk<N>, W: Write>(
 }
 
 // The answer that the input's end brings: that of a last line lacking its newline, if there is one.
-fn finish<const N: usize, T: Talk<N>, W: Write>(
-    talk: &mut T,
+fn finish<A: Answers<KEPT, N>, const KEPT: usize, const N: usize, W: Write>(
+    dialog: &Dialog<A, KEPT>,
     out: &mut ArrayVec<u8, N>,
     output: &mut W,
 ) -> io::Result<()>
-    ensures { OnOk result (Appends (W.contents output.old) (W.contents output.new) (T.answers talk.old [])) }
+    requires room { A.last_room ≤ N }
+    ensures { OnOk result (Appends (W.contents output.old) (W.contents output.new)
+        (saying (A.course dialog.now.answerer) (A.state dialog.now.line.items dialog.now.memory) [])) }
 {
     out.clear();
-    talk.finish(out);
+    dialog.finish(out);
     output.write_all(out.as_slice())
 }
 
 // Reads and answers a chunk at a time, as it comes, by the buffer lent. A read that fails is not the end of the input: an unfinished line is left without an answer.
-pub fn answer_all<const N: usize, T: Talk<N>, R: Read, W: Write>(
-    talk: &mut T,
+pub fn answer_all<A: Answers<KEPT, N>, const KEPT: usize, const N: usize, R: Read, W: Write>(
+    dialog: &mut Dialog<A, KEPT>,
     out: &mut ArrayVec<u8, N>,
     input: &mut R,
     output: &mut W,
 ) -> Result<(), Failed>
-    ensures { OnOk result (IfSome (R.remaining input.old) (λ bytes. Appends (W.contents output.old) (W.contents output.new) (T.answers talk.old bytes))) }
+    requires room { A.room ≤ N }
+    requires last_room { A.last_room ≤ N }
+    ensures { OnOk result (IfSome (R.remaining input.old) (λ bytes. Appends (W.contents output.old) (W.contents output.new)
+        (saying (A.course dialog.old.answerer) (A.state dialog.old.line.items dialog.old.memory) bytes))) }
 {
     let mut buffer = [0u8; CHUNK];
     for _ in 0..u64::MAX {
         let got = input.read(&mut buffer).map_err(Failed::Input)?;
         if got == 0 {
-            return finish(talk, out, output).map_err(Failed::Output);
+            return finish(dialog, out, output).map_err(Failed::Output);
         }
-        answer(talk, &buffer[..got], out, output).map_err(Failed::Output)?;
+        answer(dialog, &buffer[..got], out, output).map_err(Failed::Output)?;
     }
     Err(too_many_reads())
 }
 
 // A proved loop has to end, and nothing says that an input does: so a program gives up after more reads than any run makes.
-pub fn too_many_reads() -> Failed {
+fn too_many_reads() -> Failed {
     Failed::Input(io::Error::from(io::ErrorKind::TimedOut))
 }
 
-// Whether the program was given any argument, be it text or not.
+// Whether the program was given any argument, be it text or not. It has no clause, since what `Env` promises of `arg` says nothing of which arguments there are.
 pub fn has_arguments(rt: &impl Env) -> bool {
     !matches!(rt.arg(1, &mut [0u8; 1]), Err(FillError::NotPresent))
 }

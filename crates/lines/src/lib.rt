@@ -7,7 +7,7 @@ ghost use Rattle.refusals.specs.Refusal.{number_of};
 ghost use Rattle.refusals.specs.declared.Refusal.TheVariants as refusals;
 ghost use Rattle.fields.specs.Fields.{is_number, value};
 ghost use Rattle.texts.specs.Texts.{refused_line};
-ghost use Rattle.lines.specs.Lines.{signal_field, prn_field, place_field, count_field, echoed, answered_with, line_refusal, line_reply};
+ghost use Rattle.lines.specs.Lines.{echoed, line_refusal, line_reply};
 ghost use Rattle.gps_chips.specs.Chips.{by_the_machine};
 ghost use Rattle.lines.specs.Inner.{are_numbers_of, asked_of, answered_of, fields_reply_of, AreShort};
 
@@ -16,6 +16,10 @@ use refusals::Refusal;
 
 // The most chips that a line may ask for.
 const MOST_COUNT: u64 = 64;
+
+// Every reply fits in so many bytes: three numbers of 13 digits and 64 chips, or a refusal. Who appends one asks for them in a clause, as for the `ROOM` of
+// answer_lines and for the reason there.
+pub const ROOM: usize = 128;
 
 // The four fields of a line.
 #[derive(Clone, Copy, Debug, PartialEq, Eq)]
@@ -26,7 +30,7 @@ struct Fields<'a> {
     count: &'a [u8],
 }
 
-// What a line asks for.
+// What a line asks for. Apart from `Fields`: one type over what a field is would have an `impl` for each of the two, and no function of both.
 #[derive(Clone, Copy, Debug, PartialEq, Eq)]
 struct Asked {
     signal: u64,
@@ -103,7 +107,7 @@ fn append_number<const N: usize>(field: &[u8], out: &mut ArrayVec<u8, N>)
 fn append_answer<const N: usize>(fields: Fields, chips: &[u8], out: &mut ArrayVec<u8, N>)
     requires short { AreShort fields }
     requires few_chips { length chips.now ≤ 64 }
-    requires room { array_vec_len out.old + 128 ≤ N }
+    requires room { array_vec_len out.old + ROOM ≤ N }
     ensures { out.new.items ≡ out.old.items ++ answered_of fields.entry chips.now }
 {
     append_number(fields.signal, out);
@@ -116,7 +120,7 @@ fn append_answer<const N: usize>(fields: Fields, chips: &[u8], out: &mut ArrayVe
 // The reply to four fields, behind what stands there, unless it is a refusal: then nothing is written.
 #[tactic(auto, unfolding(crate::specs::Lines::fields_reply), using(crate::proofs::LineReplies::reply_refused))]
 fn answer<const N: usize>(fields: Fields, out: &mut ArrayVec<u8, N>) -> Result<(), Refusal>
-    requires room { array_vec_len out.old + 128 ≤ N }
+    requires room { array_vec_len out.old + ROOM ≤ N }
     ensures { MatchResult result (λ _. out.new.items ≡ out.old.items ++ fields_reply_of fields.entry)
         (λ e. (out.new ≡ out.old) × (fields_reply_of fields.entry ≡ refused_line (number_of e))) }
 {
@@ -130,7 +134,7 @@ fn answer<const N: usize>(fields: Fields, out: &mut ArrayVec<u8, N>) -> Result<(
 
 // The reply to a line, behind what stands there.
 pub fn reply<const N: usize>(line: &[u8], out: &mut ArrayVec<u8, N>)
-    requires room { array_vec_len out.old + 128 ≤ N }
+    requires room { array_vec_len out.old + ROOM ≤ N }
     ensures { out.new.items ≡ out.old.items ++ line_reply line.now }
 {
     if let Err(refusal) = answer(Fields::of(line), out) {

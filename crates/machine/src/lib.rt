@@ -24,7 +24,7 @@ pub struct Generator {
 // one as the first and L2 CL as the second, I5 and Q5 have XA and XB. What a signal lacks is 0 and running.
 #[derive(Clone, Copy, Debug, PartialEq, Eq)]
 pub struct Channel {
-    // 1 C/A, 2 P, 3 L2 CM, 4 L2 CL, 5 I5, 6 Q5.
+    // 1 C/A, 2 P, 3 L2 CM, 4 L2 CL, 5 I5, 6 Q5. A number: a channel comes from any caller, with any fields, and is then judged.
     pub signal: u32,
     pub prn: u32,
     // Chips of this signal since the start of the week.

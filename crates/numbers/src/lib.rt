@@ -9,7 +9,7 @@ use arrayvec::ArrayVec;
 
 // ---- written
 
-// A number and the mark behind it, put behind what stands there.
+// A number and the mark behind it, put behind what stands there: 21 bytes at most.
 #[tactic(auto, using(crate::proofs::Numbers::word_put, crate::proofs::Numbers::number_short))]
 pub fn put_number<const N: usize>(n: u64, mark: u8, out: &mut ArrayVec<u8, N>)
     requires room { array_vec_len out.old + 21 ≤ N }

@@ -1,29 +1,23 @@
 // The channel at place 0, by signal.
 #![tactic(auto)]
 
-ghost use Rattle.std.specs.Prelude.{◌≡◌};
-ghost use Rattle.machine.specs.Machine.{at_zero, opened_as, opened};
-ghost use Rattle.machine.specs.Signals.{signal_p};
+ghost use Rattle.std.specs.Prelude.{◌≡◌, get_or};
+ghost use Rattle.machine.specs.Machine.{at_zero, opened};
 ghost use Rattle.signals.specs.Signals.{number_of};
 
 use machine::Channel;
+use registers::{G1, G2, X1A, X1B, X2A, X2B, XA};
 use signals::{Prn, Signal};
+use starts::FixedStart;
 
-// A channel at place 0, given its delay line and the starts of its generators.
-fn at_zero(
-    signal: u32,
-    prn: u32,
-    line: u64,
-    first: u32,
-    second: u32,
-    third: u32,
-    fourth: u32,
-) -> Channel
-    ensures { result ≡ at_zero signal prn line first second third fourth }
+// A channel at place 0, given its delay line and the starts of its generators: 0 of one that the signal lacks.
+fn at_zero(signal: Signal, prn: Prn, line: u64, starts: [u32; 4]) -> Channel
+    ensures { result ≡ at_zero (number_of signal) prn.number line (get_or starts 0 0) (get_or starts 1 0) (get_or starts 2 0) (get_or starts 3 0) }
 {
+    let [first, second, third, fourth] = starts;
     Channel {
-        signal,
-        prn,
+        signal: signal.number(),
+        prn: prn.number,
         place: 0,
         epoch: 0,
         delay: line,
@@ -34,57 +28,21 @@ fn at_zero(
     }
 }
 
-fn open_p(signal: u32, prn: u32) -> Channel
-    ensures { result ≡ opened_as (signal_p prn) signal prn }
-{
-    let line = machine::LINE_LIMIT - 1;
-    at_zero(
-        signal,
-        prn,
-        line,
-        starts::start_x1a(),
-        starts::start_x1b(),
-        starts::start_x2a(),
-        starts::start_x2b(),
-    )
-}
-
-// The channel of a signal and a PRN.
+// The channel of a signal and a PRN. An arm for each signal: the compiler names each `match` that lacks one.
 #[tactic(auto, unfolding(machine::specs::Machine::opened))]
 pub fn open(signal: Signal, prn: Prn) -> Channel
     ensures { result ≡ opened (number_of signal) prn.number }
 {
-    let number = signal.number();
     match signal {
-        Signal::Ca => at_zero(
-            number,
-            prn.number,
-            0,
-            starts::start_g1(),
-            starts::start_g2(),
-            0,
-            0,
-        ),
-        Signal::P => open_p(number, prn.number),
-        Signal::L2Cm => at_zero(number, prn.number, 0, starts::start_cm(prn), 0, 0, 0),
-        Signal::L2Cl => at_zero(number, prn.number, 0, 0, starts::start_cl(prn), 0, 0),
-        Signal::I5 => at_zero(
-            number,
-            prn.number,
-            0,
-            starts::start_xa(),
-            starts::start_i5(prn),
-            0,
-            0,
-        ),
-        Signal::Q5 => at_zero(
-            number,
-            prn.number,
-            0,
-            starts::start_xa(),
-            starts::start_q5(prn),
-            0,
-            0,
-        ),
+        Signal::Ca => at_zero(signal, prn, 0, [G1::start(), G2::start(), 0, 0]),
+        Signal::P => {
+            let line = machine::LINE_LIMIT - 1;
+            let starts = [X1A::start(), X1B::start(), X2A::start(), X2B::start()];
+            at_zero(signal, prn, line, starts)
+        }
+        Signal::L2Cm => at_zero(signal, prn, 0, [starts::start_cm(prn), 0, 0, 0]),
+        Signal::L2Cl => at_zero(signal, prn, 0, [0, starts::start_cl(prn), 0, 0]),
+        Signal::I5 => at_zero(signal, prn, 0, [XA::start(), starts::start_i5(prn), 0, 0]),
+        Signal::Q5 => at_zero(signal, prn, 0, [XA::start(), starts::start_q5(prn), 0, 0]),
     }
 }

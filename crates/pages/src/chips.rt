@@ -14,7 +14,7 @@ pub struct Advance {
 
 impl fmt::Display for Advance {
     fn fmt<W: fmt::Write>(&self, f: &mut fmt::Formatter<W>) -> fmt::Result {
-        let (prn, hours) = (self.prn, self.hours);
+        let Advance { prn, hours } = *self;
         // Two numbers of up to 20 digits, and five signs.
         let mut name = ArrayString::<45>::new();
         write!(name, "P{prn}(t")?;

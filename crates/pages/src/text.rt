@@ -51,7 +51,8 @@ pub struct Bits<const N: usize> {
     pub digits: Digits,
 }
 
-// The remainders keep a digit below 16, whatever the bytes are.
+// The remainders keep a digit below 16, whatever the bytes are. For `Lines` too, so not `Bits`' own. No clause:
+// nothing here says what a formatter has written.
 pub(crate) fn write_bits<W: fmt::Write>(
     f: &mut fmt::Formatter<W>,
     bits: &[u8],

@@ -11,7 +11,8 @@ pub enum Value {
     Gap(i64),
     // The number of a chip in its cycle, at the right of four columns.
     Chip(u64),
-    Register { signal: Signal, stages: u32 },
+    // The stages of a register of the signal with this number: any is shown, and a `Signal` would ask more of callers.
+    Register { signal: u64, stages: u32 },
     Mode(Mode),
     // What a step gives: the opened channel, or another one.
     Opened,
@@ -39,17 +40,17 @@ fn write_gap<W: fmt::Write>(f: &mut fmt::Formatter<W>, chips: i64) -> fmt::Resul
     write!(f, "{}", Grouped(chips.unsigned_abs()))
 }
 
-// L2's 27 stages in octal, as the standards have them, and all others in binary.
+// L2's 27 stages in octal, as the standards have them and as those of no signal are shown, and all others in binary.
 fn write_register<W: fmt::Write>(
     f: &mut fmt::Formatter<W>,
-    signal: Signal,
+    signal: u64,
     stages: u32,
 ) -> fmt::Result {
-    match signal {
-        Signal::Ca => write!(f, "{stages:010b}"),
-        Signal::P => write!(f, "{stages:012b}"),
-        Signal::L2Cm | Signal::L2Cl => write!(f, "{stages:09o}"),
-        Signal::I5 | Signal::Q5 => write!(f, "{stages:013b}"),
+    match Signal::try_from(signal) {
+        Ok(Signal::Ca) => write!(f, "{stages:010b}"),
+        Ok(Signal::P) => write!(f, "{stages:012b}"),
+        Ok(Signal::L2Cm | Signal::L2Cl) | Err(_) => write!(f, "{stages:09o}"),
+        Ok(Signal::I5 | Signal::Q5) => write!(f, "{stages:013b}"),
     }
 }
 

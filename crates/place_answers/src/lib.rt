@@ -25,7 +25,7 @@ fn chips_on<const N: usize>(
     }
 }
 
-// Chips on a buffer of so many bytes, each 0. Inlined, it would have every byte of a session pay for its stack.
+// Chips on a buffer of so many bytes, each 0. A window has one like it: one for both would take what is done with the buffer as a closure. Inlined, it would have every byte of a session pay for its stack.
 #[inline(never)]
 pub fn chips<const N: usize>(
     signal: u64,
@@ -48,7 +48,7 @@ pub fn chips<const N: usize>(
 
 // The epoch of 1.5 seconds at a place of a signal's week, and the chip in it: `ok EPOCH CHIP`, or the refusal of the signal or the place. Any two numbers.
 pub fn reading<const N: usize>(signal: u64, place: u64, out: &mut ArrayVec<u8, N>)
-    requires { array_vec_len out.old + 45 ≤ N }
+    requires { array_vec_len out.old + ROOM ≤ N }
     ensures { out.new.items ≡ out.old.items ++ reading_line (reading_reply signal place) }
 {
     match places::reading(signal, place) {
@@ -59,7 +59,7 @@ pub fn reading<const N: usize>(signal: u64, place: u64, out: &mut ArrayVec<u8, N
 
 // The place of a chip of an epoch: `ok PLACE`, or the refusal of the signal, the epoch or the chip. Any three numbers.
 pub fn place_of<const N: usize>(signal: u64, epoch: u64, chip: u64, out: &mut ArrayVec<u8, N>)
-    requires { array_vec_len out.old + 24 ≤ N }
+    requires { array_vec_len out.old + ROOM ≤ N }
     ensures { out.new.items ≡ out.old.items ++ place_of_line (place_of_reply signal epoch chip) }
 {
     match places::place_of(signal, epoch, chip) {
@@ -70,7 +70,7 @@ pub fn place_of<const N: usize>(signal: u64, epoch: u64, chip: u64, out: &mut Ar
 
 // The chips from place a to place b, the shorter way round the week: `ok SIGNED`, or the refusal of the signal or a place. Any three numbers.
 pub fn gap<const N: usize>(signal: u64, a: u64, b: u64, out: &mut ArrayVec<u8, N>)
-    requires { array_vec_len out.old + 25 ≤ N }
+    requires { array_vec_len out.old + ROOM ≤ N }
     ensures { out.new.items ≡ out.old.items ++ gap_line (gap_reply signal a b) }
 {
     match places::gap(signal, a, b) {

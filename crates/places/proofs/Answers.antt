@@ -1,15 +1,13 @@
--- What each call answers, case by case: each refusal where document 01 sets it, and only there.
---     reading_no_signal, reading_no_place, reading_answers
---     place_no_signal, place_no_epoch, place_no_chip, place_answers
---     gap_no_signal, gap_no_first, gap_no_second, gap_answers
+-- What each call answers where it answers, and what is known then.
+--     reading_answers, place_answers, gap_answers
 --     reading_accepted, place_accepted, gap_accepted   what is known where a call is accepted
 -- Assumes nothing.
-use Prim.Native.Nat.{ℕ, ◌+◌, ◌*◌, ◌/◌, ◌%◌, ◌≤◌, ◌<◌}
+use Prim.Native.Nat.{ℕ, ◌+◌, ◌*◌, ◌/◌, ◌%◌, ◌<◌}
 use mathlib.Core.Bool.{Bool, true, false, cond, ◌&&◌}
 use mathlib.Core.Path.{◌≡◌, refl, ap}
 use lib.Dec.{ltb}
 use lib.IntN.{ℤ, pos, ◌-ℤ◌}
-use borrow.Author.Tests.{ltb-true, lt-ltb, le-ltb}
+use borrow.Author.Tests.{ltb-true, lt-ltb}
 use Rattle.machine.specs.Signals.{week_of}
 use Rattle.machine.specs.Machine.{is_signal}
 use Rattle.places.specs.Places.{answer, refusal, epochs, epoch_chips, reading_reply, place_of_reply, folded, gap_reply}
@@ -17,14 +15,6 @@ use Rattle.places.specs.Places.{answer, refusal, epochs, epoch_chips, reading_re
 -- ---- reading
 
 module _ (signal place : ℕ) where
-  pub reading_no_signal : is_signal signal ≡ false → reading_reply signal place ≡ refusal 1
-  unfolding reading_reply
-  reading_no_signal unlisted = simp unlisted
-
-  pub reading_no_place : is_signal signal ≡ true → week_of signal ≤ place → reading_reply signal place ≡ refusal 3
-  unfolding reading_reply
-  reading_no_place listed past = simp (listed, le-ltb place (week_of signal) past)
-
   pub reading_answers : is_signal signal ≡ true → place < week_of signal
       → reading_reply signal place ≡ answer (place / epoch_chips signal, place % epoch_chips signal)
   unfolding reading_reply
@@ -47,18 +37,6 @@ reading_accepted signal place epoch chip e =
 -- ---- place of
 
 module _ (signal epoch chip : ℕ) where
-  pub place_no_signal : is_signal signal ≡ false → place_of_reply signal epoch chip ≡ refusal 1
-  unfolding place_of_reply
-  place_no_signal unlisted = simp unlisted
-
-  pub place_no_epoch : is_signal signal ≡ true → epochs ≤ epoch → place_of_reply signal epoch chip ≡ refusal 7
-  unfolding place_of_reply
-  place_no_epoch listed past = simp (listed, le-ltb epoch epochs past)
-
-  pub place_no_chip : is_signal signal ≡ true → epoch < epochs → epoch_chips signal ≤ chip → place_of_reply signal epoch chip ≡ refusal 8
-  unfolding place_of_reply
-  place_no_chip listed epoch_in past = simp (listed, lt-ltb epoch epochs epoch_in, le-ltb chip (epoch_chips signal) past)
-
   pub place_answers : is_signal signal ≡ true → epoch < epochs → chip < epoch_chips signal
       → place_of_reply signal epoch chip ≡ answer (epoch * epoch_chips signal + chip)
   unfolding place_of_reply
@@ -81,18 +59,6 @@ place_accepted signal epoch chip place e =
 -- ---- gap
 
 module _ (signal a b : ℕ) where
-  pub gap_no_signal : is_signal signal ≡ false → gap_reply signal a b ≡ refusal 1
-  unfolding gap_reply
-  gap_no_signal unlisted = simp unlisted
-
-  pub gap_no_first : is_signal signal ≡ true → week_of signal ≤ a → gap_reply signal a b ≡ refusal 3
-  unfolding gap_reply
-  gap_no_first listed past = simp (listed, le-ltb a (week_of signal) past)
-
-  pub gap_no_second : is_signal signal ≡ true → a < week_of signal → week_of signal ≤ b → gap_reply signal a b ≡ refusal 3
-  unfolding gap_reply
-  gap_no_second listed a_in past = simp (listed, lt-ltb a (week_of signal) a_in, le-ltb b (week_of signal) past)
-
   pub gap_answers : is_signal signal ≡ true → a < week_of signal → b < week_of signal
       → gap_reply signal a b ≡ answer (folded (week_of signal) (pos b -ℤ pos a))
   unfolding gap_reply

@@ -6,4 +6,3 @@ pub mod EpochOfP
 pub mod Differences
 pub mod Gaps
 pub mod EndValues
-pub mod Sizes

@@ -2,7 +2,7 @@
 // out. Numbers are tested whole before they are narrowed.
 #![tactic(auto)]
 
-ghost use Rattle.std.specs.Prelude.{◌≡◌, ◌<◌, pos, neg_ℤ, nat_abs, FitsSigned, ◌+ℤ◌, ◌-ℤ◌};
+ghost use Rattle.std.specs.Prelude.{◌≡◌, ◌<◌, ◌^◌, pos, neg_ℤ, nat_abs, FitsSigned, ◌+ℤ◌, ◌-ℤ◌};
 ghost use Rattle.std.specs.Int.{w64};
 ghost use Rattle.signals.specs.Signals.{number_of};
 ghost use Rattle.places.specs.Places.{epoch_chips, of_read, reading_reply, of_placed, place_of_reply, folded_by, folded, of_parted, gap_reply};
@@ -69,8 +69,8 @@ pub fn place_of(signal: u64, epoch: u64, chip: u64) -> Result<u64, Refusal>
 
 // b - a, of two places.
 fn difference(a: u64, b: u64) -> i64
-    requires a_bound { a < 9223372036854775808 }
-    requires b_bound { b < 9223372036854775808 }
+    requires a_fits { a < 2 ^ 63 }
+    requires b_fits { b < 2 ^ 63 }
     ensures { result ≡ pos b -ℤ pos a }
 {
     (b as i64) - (a as i64)
@@ -94,9 +94,9 @@ fn fold(half: i64, week: i64, d: i64) -> i64
 
 // The signed chips from a to b, two places of a week that fits twice into an i64.
 fn chips_between(week: u64, a: u64, b: u64) -> i64
-    requires week_bound { week < 4611686018427387904 }
-    requires a_lt_week { a < week }
-    requires b_lt_week { b < week }
+    requires week_fits_twice { week < 2 ^ 62 }
+    requires a_in_week { a < week }
+    requires b_in_week { b < week }
     ensures { result ≡ folded week (pos b -ℤ pos a) }
 {
     fold((week / 2) as i64, week as i64, difference(a, b))

@@ -13,6 +13,10 @@ pub trait Register {
 
     ghost shift: { ℕ → ℕ };
 
+    // One past the highest number that it holds. An associated constant would take the constant, a ghost of it and a law; this takes a clause.
+    fn limit() -> u32
+        ensures { result ≡ 2 ^ width };
+
     // One shift.
     fn shift(register: u32) -> u32
         requires { register < 2 ^ width }
@@ -32,14 +36,15 @@ fn parity(x: u32) -> u32
 
 // One shift of a register whose highest stage stands for `top`, with a one in `taps` for each stage that is added up.
 fn shifted(register: u32, top: u32, taps: u32) -> u32
-    requires top_nonzero { 0 < top }
-    requires top_bound { top ≤ 2 ^ 12 }
-    requires taps_bound { taps < 2 ^ 13 }
+    requires some_stage { 0 < top }
+    requires at_most_thirteen_stages { top ≤ 2 ^ 12 }
+    requires taps_are_stages { taps < 2 ^ 13 }
     ensures { result ≡ register % top * 2 + ones (bit_and register taps) % 2 }
 {
     register % top * 2 + parity(register & taps)
 }
 
+#[derive(Clone, Copy, Debug, PartialEq, Eq)]
 pub struct G1;
 
 impl Register for G1 {
@@ -47,12 +52,17 @@ impl Register for G1 {
 
     ghost shift = { shift_g1 };
 
+    fn limit() -> u32 {
+        1_024
+    }
+
     #[tactic(auto, using(crate::proofs::Taps::g1_masked))]
     fn shift(register: u32) -> u32 {
         shifted(register, 0b10_0000_0000, 0b10_0000_0100)
     }
 }
 
+#[derive(Clone, Copy, Debug, PartialEq, Eq)]
 pub struct G2;
 
 impl Register for G2 {
@@ -60,12 +70,17 @@ impl Register for G2 {
 
     ghost shift = { shift_g2 };
 
+    fn limit() -> u32 {
+        1_024
+    }
+
     #[tactic(auto, using(crate::proofs::Taps::g2_masked))]
     fn shift(register: u32) -> u32 {
         shifted(register, 0b10_0000_0000, 0b11_1010_0110)
     }
 }
 
+#[derive(Clone, Copy, Debug, PartialEq, Eq)]
 pub struct X1A;
 
 impl Register for X1A {
@@ -73,12 +88,17 @@ impl Register for X1A {
 
     ghost shift = { shift_x1a };
 
+    fn limit() -> u32 {
+        4_096
+    }
+
     #[tactic(auto, using(crate::proofs::Taps::x1a_masked))]
     fn shift(register: u32) -> u32 {
         shifted(register, 0b1000_0000_0000, 0b1100_1010_0000)
     }
 }
 
+#[derive(Clone, Copy, Debug, PartialEq, Eq)]
 pub struct X1B;
 
 impl Register for X1B {
@@ -86,12 +106,17 @@ impl Register for X1B {
 
     ghost shift = { shift_x1b };
 
+    fn limit() -> u32 {
+        4_096
+    }
+
     #[tactic(auto, using(crate::proofs::Taps::x1b_masked))]
     fn shift(register: u32) -> u32 {
         shifted(register, 0b1000_0000_0000, 0b1111_1001_0011)
     }
 }
 
+#[derive(Clone, Copy, Debug, PartialEq, Eq)]
 pub struct X2A;
 
 impl Register for X2A {
@@ -99,12 +124,17 @@ impl Register for X2A {
 
     ghost shift = { shift_x2a };
 
+    fn limit() -> u32 {
+        4_096
+    }
+
     #[tactic(auto, using(crate::proofs::Taps::x2a_masked))]
     fn shift(register: u32) -> u32 {
         shifted(register, 0b1000_0000_0000, 0b1111_1101_1101)
     }
 }
 
+#[derive(Clone, Copy, Debug, PartialEq, Eq)]
 pub struct X2B;
 
 impl Register for X2B {
@@ -112,12 +142,17 @@ impl Register for X2B {
 
     ghost shift = { shift_x2b };
 
+    fn limit() -> u32 {
+        4_096
+    }
+
     #[tactic(auto, using(crate::proofs::Taps::x2b_masked))]
     fn shift(register: u32) -> u32 {
         shifted(register, 0b1000_0000_0000, 0b1001_1000_1110)
     }
 }
 
+#[derive(Clone, Copy, Debug, PartialEq, Eq)]
 pub struct XA;
 
 impl Register for XA {
@@ -125,18 +160,27 @@ impl Register for XA {
 
     ghost shift = { shift_xa };
 
+    fn limit() -> u32 {
+        8_192
+    }
+
     #[tactic(auto, using(crate::proofs::Taps::xa_masked))]
     fn shift(register: u32) -> u32 {
         shifted(register, 0b1_0000_0000_0000, 0b1_1011_0000_0000)
     }
 }
 
+#[derive(Clone, Copy, Debug, PartialEq, Eq)]
 pub struct XB;
 
 impl Register for XB {
     ghost width = { 13 };
 
     ghost shift = { shift_xb };
+
+    fn limit() -> u32 {
+        8_192
+    }
 
     #[tactic(auto, using(crate::proofs::Taps::xb_masked))]
     fn shift(register: u32) -> u32 {
@@ -145,6 +189,7 @@ impl Register for XB {
 }
 
 // The register of L2 CM and of L2 CL.
+#[derive(Clone, Copy, Debug, PartialEq, Eq)]
 pub struct L2;
 
 impl Register for L2 {
@@ -152,12 +197,17 @@ impl Register for L2 {
 
     ghost shift = { shift_l2 };
 
+    fn limit() -> u32 {
+        134_217_728
+    }
+
     fn shift(register: u32) -> u32 {
         shift_l2(register)
     }
 }
 
 // The shift of an L2 register: of any number, where the trait asks for one below 2 ^ 27.
+#[tactic(auto, unfolding(crate::specs::Register::shift_l2))]
 pub fn shift_l2(register: u32) -> u32
     ensures { result ≡ shift_l2 register }
 {

@@ -5,17 +5,21 @@
 ghost use Rattle.std.specs.Prelude.{◌≡◌, ◌-◌, ◌<◌, ◌≤◌, ◌^◌};
 ghost use Rattle.machine.specs.Signals.{week_ca, week_p, week_l2, week_l5, week_of};
 ghost use Rattle.machine.specs.Signals.{x2a, x2b};
-ghost use Rattle.machine.specs.Signals.{signal_ca, signal_p, from_cm, from_cl, from_l5};
+ghost use Rattle.machine.specs.Signals.{signal_ca, signal_p, from_l5};
 ghost use Rattle.week.specs.Standing.{generator_at};
 ghost use Rattle.week.specs.Week.{course_x2a, course_x2b};
-ghost use Rattle.week.specs.Week.{courses_ca, courses_p, courses_cm, courses_cl, courses_l5};
+ghost use Rattle.week.specs.Week.{courses_ca, courses_p, courses_l5};
 ghost use Rattle.signals.specs.Signals.{number_of};
-ghost use Rattle.seeks.specs.Inner.{Filled, plain_landed, landed, landed_at};
+ghost use Rattle.steps.specs.Inner.{from_l2};
+ghost use Rattle.seeks.specs.Inner.{Filled, plain_landed, course_l2, courses_l2, landed, landed_at};
 
 use generators::{Cl, Cm};
 use machine::{Channel, Generator};
 use registers::{G1, G2, X1A, X1B, X2A, X2B, XA, XB};
 use signals::{Prn, Signal};
+use starts::FixedStart;
+use steps::L2Code;
+use week::Coursed;
 
 // E, the chips of an epoch of P.
 const EPOCH_P: u64 = 15_345_000;
@@ -44,11 +48,13 @@ fn filled_from(place: u64) -> u64
 }
 
 // The three at a place, by single steps of X2A and X2B, which are at place `from` as they come.
+// Not inlined, so that its loop keeps to registers: inlined, a seek of P takes a sixth longer.
+#[inline(never)]
 fn fill_line(from: u64, place: u64, third: Generator, fourth: Generator) -> Fill
-    requires from_le_place { from ≤ place }
-    requires place_lt_week_p { place < week_p }
-    requires third_value { third ≡ generator_at x2a course_x2a from }
-    requires fourth_value { fourth ≡ generator_at x2b course_x2b from }
+    requires from_first { from ≤ place }
+    requires place_in_week { place < week_p }
+    requires third_there { third ≡ generator_at x2a course_x2a from }
+    requires fourth_there { fourth ≡ generator_at x2b course_x2b from }
     ensures { Filled from place result }
 {
     let mut x2a = third;
@@ -57,8 +63,8 @@ fn fill_line(from: u64, place: u64, third: Generator, fourth: Generator) -> Fill
     for at in from..place {
         let week_end = LAST_CYCLE <= at + 1;
         line = steps::next_line(x2a.register, x2b.register, line);
-        x2a = generators::step::<X2A>(x2a, starts::start_x2a(), week_end);
-        x2b = generators::step::<X2B>(x2b, starts::start_x2b(), week_end);
+        x2a = generators::step::<X2A>(x2a, X2A::start(), week_end);
+        x2b = generators::step::<X2B>(x2b, X2B::start(), week_end);
     }
     Fill {
         third: x2a,
@@ -67,9 +73,9 @@ fn fill_line(from: u64, place: u64, third: Generator, fourth: Generator) -> Fill
     }
 }
 
-// ---- a channel at a place
+// ---- a channel at a place. That the place lies in the week is a clause of each: another signal has another week.
 
-// The leaps made, and the channel at the place sought.
+// The leaps made, and the channel at the place sought. No `Counted<Channel>`: it is what the call seek answers, and its fields are named as the call tells them.
 #[derive(Clone, Copy, Debug, PartialEq, Eq)]
 pub struct Sought {
     pub leaps: u32,
@@ -78,18 +84,18 @@ pub struct Sought {
 
 // A signal with at most two generators, which are handed in.
 fn plain_at(
-    signal: u32,
-    prn: u32,
+    signal: Signal,
+    prn: Prn,
     place: u64,
     first: Generator,
     second: Generator,
     leaps: u32,
 ) -> Sought
-    ensures { result ≡ plain_landed signal prn place first second leaps }
+    ensures { result ≡ plain_landed (number_of signal) prn.number place first second leaps }
 {
     let channel = Channel {
-        signal,
-        prn,
+        signal: signal.number(),
+        prn: prn.number,
         place,
         epoch: 0,
         delay: 0,
@@ -101,33 +107,35 @@ fn plain_at(
     Sought { leaps, channel }
 }
 
-fn land_ca(signal: u32, prn: u32, place: u64) -> Sought
+// C/A.
+fn land_ca(prn: Prn, place: u64) -> Sought
     requires { place < week_ca }
-    ensures { result ≡ landed (signal_ca prn) courses_ca signal prn place }
+    ensures { result ≡ landed (signal_ca prn.number) courses_ca 1 prn.number place }
 {
-    let g1 = generators_at::seek::<G1>(starts::start_g1(), place, 0);
-    let g2 = generators_at::seek::<G2>(starts::start_g2(), place, g1.count);
-    plain_at(signal, prn, place, g1.generator, g2.generator, g2.count)
+    let g1 = generators_at::seek::<G1>(G1::start(), place, 0);
+    let g2 = generators_at::seek::<G2>(G2::start(), place, g1.count);
+    plain_at(Signal::Ca, prn, place, g1.value, g2.value, g2.count)
 }
 
-fn land_p(signal: u32, prn: u32, place: u64) -> Sought
+// P, whose delay line is filled from the places before.
+fn land_p(prn: Prn, place: u64) -> Sought
     requires { place < week_p }
-    ensures { result ≡ landed (signal_p prn) courses_p signal prn place }
+    ensures { result ≡ landed (signal_p prn.number) courses_p 2 prn.number place }
 {
     let from = filled_from(place);
-    let x1a = generators_at::seek::<X1A>(starts::start_x1a(), place, 0);
-    let x1b = generators_at::seek::<X1B>(starts::start_x1b(), place, x1a.count);
-    let x2a = generators_at::seek::<X2A>(starts::start_x2a(), from, x1b.count);
-    let x2b = generators_at::seek::<X2B>(starts::start_x2b(), from, x2a.count);
-    let filled = fill_line(from, place, x2a.generator, x2b.generator);
+    let x1a = generators_at::seek::<X1A>(X1A::start(), place, 0);
+    let x1b = generators_at::seek::<X1B>(X1B::start(), place, x1a.count);
+    let x2a = generators_at::seek::<X2A>(X2A::start(), from, x1b.count);
+    let x2b = generators_at::seek::<X2B>(X2B::start(), from, x2a.count);
+    let filled = fill_line(from, place, x2a.value, x2b.value);
     let channel = Channel {
-        signal,
-        prn,
+        signal: Signal::P.number(),
+        prn: prn.number,
         place,
         epoch: (place / EPOCH_P) as u32,
         delay: filled.delay,
-        first: x1a.generator,
-        second: x1b.generator,
+        first: x1a.value,
+        second: x1b.value,
         third: filled.third,
         fourth: filled.fourth,
     };
@@ -137,63 +145,45 @@ fn land_p(signal: u32, prn: u32, place: u64) -> Sought
     }
 }
 
-// L2 CM, from its start.
-fn land_cm(signal: u32, prn: u32, start: u32, place: u64) -> Sought
-    requires start_bound { start < 2 ^ 27 }
-    requires place_lt_week_l2 { place < week_l2 }
-    ensures { result ≡ landed (from_cm start) courses_cm signal prn place }
+// L2 CM and L2 CL, from the code's start.
+fn land_l2<C: L2Code + Coursed>(signal: Signal, prn: Prn, start: u32, place: u64) -> Sought
+    requires start_in_register { start < 2 ^ 27 }
+    requires place_in_week { place < week_l2 }
+    requires by_whole_cycles { C.course ≡ course_l2 C.cycle }
+    ensures { result ≡ landed (from_l2 C.is_first C.cycle start) (courses_l2 C.is_first C.cycle) (number_of signal) prn.number place }
 {
-    let cm = generators_at::seek::<Cm>(start, place, 0);
-    plain_at(
-        signal,
-        prn,
-        place,
-        cm.generator,
-        generators::fresh_generator(0, 0),
-        cm.count,
-    )
-}
-
-// L2 CL, from its start. Apart from `land_cm`: which of the two places the generator takes is all that they say.
-fn land_cl(signal: u32, prn: u32, start: u32, place: u64) -> Sought
-    requires start_bound { start < 2 ^ 27 }
-    requires place_lt_week_l2 { place < week_l2 }
-    ensures { result ≡ landed (from_cl start) courses_cl signal prn place }
-{
-    let cl = generators_at::seek::<Cl>(start, place, 0);
-    plain_at(
-        signal,
-        prn,
-        place,
-        generators::fresh_generator(0, 0),
-        cl.generator,
-        cl.count,
-    )
+    let own = generators_at::seek::<C>(start, place, 0);
+    let none = generators::fresh_generator(0, 0);
+    let lacking = plain_at(signal, prn, place, none, none, own.count);
+    Sought {
+        channel: C::with_own(lacking.channel, own.value),
+        ..lacking
+    }
 }
 
 // I5 and Q5, from XB's start.
-fn land_l5(signal: u32, prn: u32, start: u32, place: u64) -> Sought
-    requires start_bound { start < 2 ^ 13 }
-    requires place_lt_week_l5 { place < week_l5 }
-    ensures { result ≡ landed (from_l5 start) courses_l5 signal prn place }
+fn land_l5(signal: Signal, prn: Prn, start: u32, place: u64) -> Sought
+    requires start_in_register { start < 2 ^ 13 }
+    requires place_in_week { place < week_l5 }
+    ensures { result ≡ landed (from_l5 start) courses_l5 (number_of signal) prn.number place }
 {
-    let xa = generators_at::seek::<XA>(starts::start_xa(), place, 0);
+    let xa = generators_at::seek::<XA>(XA::start(), place, 0);
     let xb = generators_at::seek::<XB>(start, place, xa.count);
-    plain_at(signal, prn, place, xa.generator, xb.generator, xb.count)
+    plain_at(signal, prn, place, xa.value, xb.value, xb.count)
 }
 
-// The channel of a signal and a PRN at a place of the week.
+// The channel of a signal and a PRN at a place of the week, which has to lie below the signal's W. An arm for each signal: the compiler names each `match`
+// that lacks one.
 pub fn land(signal: Signal, prn: Prn, place: u64) -> Sought
     requires { place < week_of (number_of signal) }
     ensures { result ≡ landed_at (number_of signal) prn.number place }
 {
-    let number = signal.number();
     match signal {
-        Signal::Ca => land_ca(number, prn.number, place),
-        Signal::P => land_p(number, prn.number, place),
-        Signal::L2Cm => land_cm(number, prn.number, starts::start_cm(prn), place),
-        Signal::L2Cl => land_cl(number, prn.number, starts::start_cl(prn), place),
-        Signal::I5 => land_l5(number, prn.number, starts::start_i5(prn), place),
-        Signal::Q5 => land_l5(number, prn.number, starts::start_q5(prn), place),
+        Signal::Ca => land_ca(prn, place),
+        Signal::P => land_p(prn, place),
+        Signal::L2Cm => land_l2::<Cm>(signal, prn, starts::start_cm(prn), place),
+        Signal::L2Cl => land_l2::<Cl>(signal, prn, starts::start_cl(prn), place),
+        Signal::I5 => land_l5(signal, prn, starts::start_i5(prn), place),
+        Signal::Q5 => land_l5(signal, prn, starts::start_q5(prn), place),
     }
 }

@@ -1,6 +1,7 @@
 -- The law of sequences.
 --     word_tells      the digits of the word that is read at q are the chips of the registers from q on
 --     register_is     its highest digits, as many as the register has stages, are the register of q
+--     register_read   the same, of a table that is the sequence
 --     inner_stage     a stage other than the last gives its chip so many shifts earlier
 -- Assumes nothing.
 use Prim.Native.Nat.{ℕ, zero, suc, ◌+◌, ◌-◌, ◌*◌, ◌/◌, ◌%◌, ◌^◌, ◌<◌, ◌≤◌}
@@ -75,6 +76,11 @@ register_is s taps n start q le some h room =
     ∙ given_first f s s (64 - s) r
     ∙ first_chips_lem s taps s 0 r (omega arith) (times_keeps (tapped s taps some) q start h)
     ∙ div-one r
+
+pub register_read : (s : ℕ) (taps : List ℕ) (n start : ℕ) (seq : List ℕ) → seq ≡ sequence (shift s taps) s n start → s ≤ 64 → 0 < s → start < 2 ^ s
+    → (q : ℕ) → q / 64 + 1 < n → word_in seq (0 + q) / 2 ^ (64 - s) ≡ times (shift s taps) q start
+register_read s taps n start seq is le some h q room =
+    ap₂ (λ (l : List ℕ) (k : ℕ). word_in l k / 2 ^ (64 - s)) is (zero-add q) ∙ register_is s taps n start q le some h room
 
 -- ---- the other stages
 

@@ -2,70 +2,96 @@
 // highest digit. A word of 64 chips can be read from any phase on, and a register from its next chips.
 #![tactic(auto, unfolding(crate::specs::Sequences::sequence, crate::specs::Sequences::given, registers::specs::Times::times, registers::specs::Register::shift, registers::specs::Register::sum_of, registers::specs::Register::stage))]
 
-ghost use Rattle.std.specs.Prelude.{◌≡◌, ◌+◌, ◌-◌, ◌/◌, ◌<◌, ◌≤◌, ◌^◌, length};
-ghost use Rattle.registers.specs.Register.{shift_g1, shift_g2, shift_x1a, shift_x1b, shift_x2a, shift_x2b, shift_xa, shift_xb};
+ghost use Rattle.std.specs.Prelude.{◌≡◌, ℕ, ◌+◌, ◌-◌, ◌/◌, ◌<◌, ◌≤◌, ◌^◌, length};
 ghost use Rattle.starts.specs.Starts.{start_g1, start_g2, start_x1a, start_x1b, start_x2a, start_x2b, start_xa};
 ghost use Rattle.sequences.specs.Sequences.{sequence, word_in};
 
+use registers::{G1, G2, Register, X1A, X1B, X2A, X2B, XA, XB};
+
 mod tables;
 
-// ---- the tables: the register's chips are computed, and are the table's. Eight functions, for each gives another table of another register; a trait with
-// eight impls would be longer.
+// ---- the tables
 
-// G1's chips: two cycles of 1,023, which it comes round by itself, and what a word has beyond them.
-pub fn g1() -> [u64; 34]
-    ensures { result ≡ sequence shift_g1 10 34 start_g1 }
-{
-    tables::G1
+// A register whose chips are tabled, in so many words of 64.
+pub trait Sequence<const WORDS: usize>: Register {
+    // The register of the first chip.
+    ghost from: { ℕ };
+
+    // Its chips, which the proof computes to be the table. An associated constant would take the constant, a ghost of it and a law; this takes a clause.
+    fn sequence() -> [u64; WORDS]
+        ensures { result ≡ sequence Self.shift Self.width WORDS from };
 }
 
-// G2's chips, as many.
-pub fn g2() -> [u64; 34]
-    ensures { result ≡ sequence shift_g2 10 34 start_g2 }
-{
-    tables::G2
+// Two cycles of 1,023, which it comes round by itself, and what a word has beyond them.
+impl Sequence<34> for G1 {
+    ghost from = { start_g1 };
+
+    fn sequence() -> [u64; 34] {
+        tables::G1
+    }
 }
 
-// X1A's chips: a cycle of 4,092, and what a word from its last phase has beyond it.
-pub fn x1a() -> [u64; 65]
-    ensures { result ≡ sequence shift_x1a 12 65 start_x1a }
-{
-    tables::X1A
+// As many as G1's.
+impl Sequence<34> for G2 {
+    ghost from = { start_g2 };
+
+    fn sequence() -> [u64; 34] {
+        tables::G2
+    }
 }
 
-// X1B's chips: a cycle of 4,093, and on.
-pub fn x1b() -> [u64; 65]
-    ensures { result ≡ sequence shift_x1b 12 65 start_x1b }
-{
-    tables::X1B
+// A cycle of 4,092, and what a word from its last phase has beyond it.
+impl Sequence<65> for X1A {
+    ghost from = { start_x1a };
+
+    fn sequence() -> [u64; 65] {
+        tables::X1A
+    }
 }
 
-// X2A's chips: a cycle of 4,092, and on.
-pub fn x2a() -> [u64; 65]
-    ensures { result ≡ sequence shift_x2a 12 65 start_x2a }
-{
-    tables::X2A
+// A cycle of 4,093, and on.
+impl Sequence<65> for X1B {
+    ghost from = { start_x1b };
+
+    fn sequence() -> [u64; 65] {
+        tables::X1B
+    }
 }
 
-// X2B's chips: a cycle of 4,093, and on.
-pub fn x2b() -> [u64; 65]
-    ensures { result ≡ sequence shift_x2b 12 65 start_x2b }
-{
-    tables::X2B
+// A cycle of 4,092, and on.
+impl Sequence<65> for X2A {
+    ghost from = { start_x2a };
+
+    fn sequence() -> [u64; 65] {
+        tables::X2A
+    }
 }
 
-// XA's chips: a cycle of 8,190, and on.
-pub fn xa() -> [u64; 129]
-    ensures { result ≡ sequence shift_xa 13 129 start_xa }
-{
-    tables::XA
+// A cycle of 4,093, and on.
+impl Sequence<65> for X2B {
+    ghost from = { start_x2b };
+
+    fn sequence() -> [u64; 65] {
+        tables::X2B
+    }
 }
 
-// XB's chips from all ones, two cycles of 8,191: the start of each PRN is an advance from there.
-pub fn xb() -> [u64; 257]
-    ensures { result ≡ sequence shift_xb 13 257 8191 }
-{
-    tables::XB
+// A cycle of 8,190, and on.
+impl Sequence<129> for XA {
+    ghost from = { start_xa };
+
+    fn sequence() -> [u64; 129] {
+        tables::XA
+    }
+}
+
+// From all ones, two cycles of 8,191: the start of each PRN is an advance from there.
+impl Sequence<257> for XB {
+    ghost from = { 8191 };
+
+    fn sequence() -> [u64; 257] {
+        tables::XB
+    }
 }
 
 // ---- reading

@@ -6,20 +6,22 @@
 use Prim.Native.Nat.{ℕ, suc, ◌≤◌, ◌<◌}
 use mathlib.Core.Bool.{Bool, true, false, cond}
 use mathlib.Core.List.{List, [], ◌∷◌, ◌++◌, append_assoc, append-nil}
-use mathlib.Core.Path.{◌≡◌, refl, sym, ap, ap₂, subst, ◌∙◌}
+use mathlib.Core.Path.{◌≡◌, refl, sym, ap, subst, ◌∙◌}
 use native.Mathlib.Omega.{arith}
 use lib.Dec.{leb, eqb}
 use lib.ListN.{length, take, length-append}
 use lib.Seq.{take_all, take-append-le}
 use borrow.Author.Tests.{leb-true, leb-false, eqb-false, ne_eqb}
 use Rattle.texts.specs.Saying.{whole}
-use Rattle.texts.proofs.Saying.{Plain, plain-take, kept_more, rest-append, replies-append}
+use Rattle.texts.proofs.Saying.{Plain, plain-take, kept_more}
+use Rattle.line_programs.proofs.Dialogs as dialogs
 use Rattle.std.specs.Prelude.{Option}
 use Rattle.machine.specs.declared.Channel.{Channel}
 use Rattle.commands.specs.Commands.{command_of}
 use Rattle.commands.specs.declared.Command.{Command}
 use Rattle.commands.proofs.LongLines.{late}
-use Rattle.sessions.specs.Sessions.{answer_of, last_of, nobody, command_in, answers_to, lines_from, output, Talk, kept, asked, next, said, rest, replies, last_answer, saying, begun}
+use Rattle.sessions.specs.Sessions.{answer_of, last_of, nobody, command_in, answers_to, lines_from, output, Talk, kept, asked, rest, replies, last_answer, saying, begun, course}
+use Rattle.sessions.specs.Laws.{keeps}
 
 -- ---- a line of any length
 
@@ -104,15 +106,7 @@ module _ (help : List ℕ) where
 
   -- `feed` says the answers of a chunk, from where the session stands before it, and leaves it where it stands after it; `finish` says the last answer
   abbrev pub fed_with : Talk → List (List ℕ) → List ℕ
-  fed_with t [] = last_answer help t
-  fed_with t (chunk ∷ chunks) = replies help t chunk ++ fed_with (rest t chunk) chunks
-
-  fed_on : (t : Talk) (chunks : List (List ℕ)) → fed_with t chunks ≡ saying help t (whole chunks)
-  fed_on t [] = refl
-  fed_on t (chunk ∷ chunks) =
-      ap (λ (l : List ℕ). replies help t chunk ++ l) (fed_on (rest t chunk) chunks)
-      ∙ sym (append_assoc (replies help t chunk) (replies help (rest t chunk) (whole chunks)) (last_answer help (rest (rest t chunk) (whole chunks))))
-      ∙ ap₂ (λ (x : List ℕ) (y : Talk). x ++ last_answer help y) (sym (replies-append next (said help) t chunk (whole chunks))) (sym (rest-append next t chunk (whole chunks)))
+  fed_with t chunks = dialogs.fed_with (course help) t chunks
 
   pub every_session : (chunks : List (List ℕ)) → fed_with (standing [] nobody) chunks ≡ output help (whole chunks)
-  every_session chunks = fed_on (standing [] nobody) chunks ∙ from nobody [] (whole chunks) tt
+  every_session chunks = dialogs.any_chunks (course help) (keeps help) (standing [] nobody) chunks ∙ from nobody [] (whole chunks) tt

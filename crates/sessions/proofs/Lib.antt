@@ -1,3 +1,2 @@
 -- `EverySession` is the theorem.
-pub mod Talks
 pub mod EverySession

@@ -1,2 +1,3 @@
--- What is said in a session at the console.
+-- What is said in a session at the console. `Laws` has the proofs of the laws.
 pub mod Sessions
+pub mod Laws

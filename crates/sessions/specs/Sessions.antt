@@ -6,6 +6,7 @@ use Rattle.call_seek.specs.Seek.{seek_reply}
 use Rattle.call_step.specs.Step.{step_reply}
 use Rattle.places.specs.Places.{reading_reply, place_of_reply, gap_reply}
 use Rattle.texts.specs.Saying.{rest_of, replies_of}
+use Rattle.line_programs.specs.Dialogs.{Course}
 use Rattle.machine.specs.declared.Channel.{Channel}
 use Rattle.commands.specs.Commands.{command_of}
 use Rattle.commands.specs.declared.Command.{Command}
@@ -13,7 +14,6 @@ use Rattle.commands.specs.declared.Command.TheVariants as commands
 use Rattle.answer_lines.specs.Lines.{error_line, handed_back}
 use Rattle.channel_answers.specs.ChannelAnswers.{open_line, seek_line, step_line, window_answered, opened_last, window_last}
 use Rattle.place_answers.specs.PlaceAnswers.{chips_answered, reading_line, place_of_line, gap_line}
-use Rattle.sessions.specs.declared.session.Session.{Session}
 
 -- ---- a command
 
@@ -105,14 +105,14 @@ last_answer help t = cond (eqb (length t.line) 0) [] (answer_of help (asked t))
 abbrev pub saying : List ℕ → Talk → List ℕ → List ℕ
 saying help t input = replies help t input ++ last_answer help (rest t input)
 
--- where a session of the code stands
-abbrev pub talk : Session → Talk
-talk s = record { line = s.line.items; last = s.last }
+-- where a session of the code stands, by the bytes kept of the line and what `.` stands for
+abbrev pub talk : List ℕ → Option Channel → Talk
+talk line last = record { line = line; last = last }
 
 -- one that nothing was fed to
 abbrev pub begun : Talk
 begun = record { line = []; last = nobody }
 
--- what it is still to say
-abbrev pub to_say : Session → List ℕ → List ℕ
-to_say s input = saying s.help.now (talk s) input
+-- all that it does with bytes: what `next` keeps is all that is kept
+abbrev pub course : List ℕ → Course Talk
+course help = record { kept = λ t. t; next = next; said = said help; last = last_answer help }

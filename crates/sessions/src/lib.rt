@@ -1,64 +1,56 @@
 // A session at the console: lines, fed in chunks of any size, and their answers. From line to line it keeps the channel that `.` stands for.
 #![tactic(auto)]
 
-ghost use Rattle.std.specs.Prelude.{◌≡◌, [], ◌∷◌, ◌++◌, ◌≤◌, ◌<◌, ◌+◌, length, take};
+ghost use Rattle.std.specs.Prelude.{◌≡◌, ◌++◌, ◌+◌, ◌≤◌, length};
 ghost use Rattle.arrayvec.specs.ArrayVec.{array_vec_len};
 ghost use Rattle.commands.specs.Commands.{command_of};
-ghost use Rattle.sessions.specs.Sessions.{answer_of, last_of, talk, begun, kept, next, said, rest, replies, last_answer, to_say};
+ghost use Rattle.sessions.specs.Sessions.{Talk as Standing, answer_of, last_of, talk, course};
+ghost use Rattle.sessions.specs.Laws.{laws};
 
 use answer_lines::ROOM;
 use arrayvec::ArrayVec;
 use commands::Command;
-use line_programs::Talk;
+use line_programs::{Answers, Dialog, Talk};
+use machine::Channel;
 
-// So many bytes of answers are written at once.
+// So many bytes of answers are written at once: any answer fits, and behind it as many bytes of short ones.
 pub const OUT: usize = 131_072;
 
-mod session;
+// So many bytes of a line are kept, its newline among them: more than any command has.
+pub const KEPT: usize = 1024;
 
-pub use session::{KEPT, Session};
-
-// One byte more of a line, where more are kept.
-#[tactic(auto, using(std::proofs::lemmas::Grind::common_steps, crate::proofs::Talks::room_left, crate::proofs::Talks::none_left))]
-fn keep(line: &mut ArrayVec<u8, KEPT>, b: u8)
-    ensures { line.new.items ≡ kept (line.old.items ++ b ∷ []) }
-{
-    if !line.is_full() {
-        line.push(b);
-    }
+// Who answers commands. It knows what the command `help` is answered, 66,048 bytes at most.
+#[derive(Clone, Copy, Debug, PartialEq, Eq)]
+pub struct Console<'a> {
+    pub help: &'a [u8],
+    ghost brief: { length help.now ≤ 66048 },
 }
 
-impl<'a> Session<'a> {
-    // A session that nothing was fed to: no channel was opened.
-    pub fn new(help: &'a [u8]) -> Session<'a>
-        requires { length help.now ≤ 66048 }
-        ensures help { result.help.now ≡ help.now }
-        ensures talk { talk result ≡ begun }
-    {
-        Session {
-            help,
-            line: ArrayVec::new(),
-            last: None,
-        }
-    }
+// A session remembers from line to line what `.` stands for: nothing, before any open was accepted.
+pub type Session<'a> = Dialog<Console<'a>, KEPT>;
 
-    // The answer to the line that is kept.
+impl<'a> Console<'a> {
+    // The answer to a line that is given with its newline, behind what stands there. `last` is what `.` stands for.
     #[tactic(auto, unfolding(crate::specs::Sessions::answer_of, crate::specs::Sessions::last_of))]
-    fn answer<const N: usize>(&mut self, out: &mut ArrayVec<u8, N>)
+    fn reply<const N: usize>(
+        &self,
+        line: &[u8],
+        last: &mut Option<Channel>,
+        out: &mut ArrayVec<u8, N>,
+    )
         requires { array_vec_len out.old + ROOM ≤ N }
-        ensures said { out.new.items ≡ out.old.items ++ answer_of self.old.help.now (command_of self.old.last self.old.line.items) }
-        ensures last { self.new.last ≡ last_of self.old.last (command_of self.old.last self.old.line.items) }
-        ensures help { self.new.help.now ≡ self.old.help.now }
+        ensures said { out.new.items ≡ out.old.items ++ answer_of self.now.help.now (command_of last.old line.now) }
+        ensures last { last.new ≡ last_of last.old (command_of last.old line.now) }
     {
-        let Some(command) = commands::command_in(&self.line, self.last) else {
+        let Some(command) = commands::command_in(line, *last) else {
             return answer_lines::error(out);
         };
         match command {
-            Command::Open(signal, prn) => channel_answers::open(signal, prn, &mut self.last, out),
-            Command::Seek(ch, place) => channel_answers::seek(ch, place, &mut self.last, out),
-            Command::Step(ch) => channel_answers::step(ch, &mut self.last, out),
+            Command::Open(signal, prn) => channel_answers::open(signal, prn, last, out),
+            Command::Seek(ch, place) => channel_answers::seek(ch, place, last, out),
+            Command::Step(ch) => channel_answers::step(ch, last, out),
             Command::Window(ch, count, bytes, at) => {
-                channel_answers::window(ch, count, bytes, at, &mut self.last, out)
+                channel_answers::window(ch, count, bytes, at, last, out)
             }
             Command::Chips(signal, prn, place, bytes) => {
                 place_answers::chips(signal, prn, place, bytes, out)
@@ -71,59 +63,41 @@ impl<'a> Session<'a> {
             Command::Help => texts::append(self.help, out),
         }
     }
+}
 
-    // One byte of input.
-    fn turn<const N: usize>(&mut self, b: u8, out: &mut ArrayVec<u8, N>)
-        requires { array_vec_len out.old + ROOM ≤ N }
-        ensures said { out.new.items ≡ out.old.items ++ said self.old.help.now (talk self.old) b }
-        ensures talk { talk self.new ≡ next (talk self.old) b }
-        ensures help { self.new.help.now ≡ self.old.help.now }
-    {
-        keep(&mut self.line, b);
-        if b == b'\n' {
-            self.answer(out);
-            self.line.clear();
-        }
-    }
+impl<'a> Talk<KEPT> for Console<'a> {
+    type Memory = Option<Channel>;
 
-    // Takes bytes of a chunk as long as there is room for any answer, and appends their answers. Tells how many it took.
-    #[tactic(auto, using(std::proofs::lemmas::Grind::common_steps, texts::proofs::Saying::replies_more, texts::proofs::Saying::rest_more))]
-    pub fn feed<const N: usize>(&mut self, input: &[u8], out: &mut ArrayVec<u8, N>) -> usize
-        ensures said { out.new.items ≡ out.old.items ++ replies self.old.help.now (talk self.old) (take result input.now) }
-        ensures talk { talk self.new ≡ rest (talk self.old) (take result input.now) }
-        ensures help { self.new.help.now ≡ self.old.help.now }
-        ensures used { result ≤ length input.now }
-        ensures full { result < length input.now → N < array_vec_len out.new + ROOM }
-    {
-        for (i, b) in input.iter().enumerate() {
-            if out.remaining_capacity() < ROOM {
-                return i;
-            }
-            self.turn(*b, out);
-        }
-        input.len()
-    }
+    ghost State = { Standing };
 
-    // What the end of the input says: nothing, or the answer to a last line that lacks its newline.
-    pub fn finish<const N: usize>(&mut self, out: &mut ArrayVec<u8, N>)
-        requires { array_vec_len out.old + ROOM ≤ N }
-        ensures { out.new.items ≡ out.old.items ++ last_answer self.old.help.now (talk self.old) }
-    {
-        if !self.line.is_empty() {
-            self.turn(b'\n', out);
-        }
+    ghost state = { talk };
+
+    ghost course = { λ console. course console.help.now };
+
+    ghost room = { 66048 };
+
+    ghost last_room = { 66048 };
+
+    ghost laws = { λ console. laws console.help.now };
+
+    fn room(&self) -> usize {
+        ROOM
     }
 }
 
-// By a buffer in which any answer fits, and behind it as many bytes of short ones.
-impl<'a> Talk<OUT> for Session<'a> {
-    ghost answers = { to_say };
-
-    fn feed(&mut self, chunk: &[u8], out: &mut ArrayVec<u8, OUT>) -> usize {
-        Session::feed(self, chunk, out)
+impl<'a, const N: usize> Answers<KEPT, N> for Console<'a> {
+    fn answer(&self, line: &[u8], last: &mut Option<Channel>, out: &mut ArrayVec<u8, N>) {
+        // A command is read with its newline.
+        let mut ended = ArrayVec::<u8, KEPT>::new();
+        texts::append(line, &mut ended);
+        line_programs::keep(&mut ended, b'\n');
+        self.reply(ended.as_slice(), last, out);
     }
 
-    fn finish(&mut self, out: &mut ArrayVec<u8, OUT>) {
-        Session::finish(self, out);
+    // A last line that lacks its newline is answered as if it had one.
+    #[tactic(auto, using(crate::specs::Laws::begun_left))]
+    fn answer_last(&self, line: &[u8], last: &Option<Channel>, out: &mut ArrayVec<u8, N>) {
+        let mut last = *last;
+        self.answer(line, &mut last, out);
     }
 }

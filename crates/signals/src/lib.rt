@@ -45,12 +45,13 @@ impl Signal {
         requires last { number ≤ 6 }
         ensures { number_of result ≡ number }
     {
-        match Signal::try_from(number as u64) {
+        match Signal::try_from(u64::from(number)) {
             Ok(signal) => signal,
             Err(_) => unreachable!(),
         }
     }
 
+    // Its number, as channels, C and the programs tell it.
     pub const fn number(self) -> u32
         ensures { result ≡ number_of self }
     {

@@ -3,10 +3,10 @@ use crate::chips::first;
 use crate::tables::p_at;
 use layout::{Coder, Field};
 use pages::text::{Digits, Shown};
-use signals::Signal;
+use pages::{CA, I5, P};
 use std::fmt;
 
-#[derive(Clone, Copy)]
+#[derive(Clone, Copy, Debug, PartialEq, Eq)]
 pub struct KnownPlaces;
 
 impl fmt::Display for KnownPlaces {
@@ -20,8 +20,8 @@ impl fmt::Display for KnownPlaces {
 }
 
 fn write_first_chips<W: fmt::Write>(f: &mut fmt::Formatter<W>) -> fmt::Result {
-    let ca = |prn| first::<10>(Signal::Ca, prn, Digits::Octal);
-    let p = |prn| first::<12>(Signal::P, prn, Digits::Octal);
+    let ca = |prn| first::<10>(CA, prn, Digits::Octal);
+    let p = |prn| first::<12>(P, prn, Digits::Octal);
     writeln!(f, "First ten C/A chips, octal: PRN 1 {}", ca(1))?;
     writeln!(f, "First ten C/A chips, octal: PRN 34 {}", ca(34))?;
     writeln!(f, "First ten C/A chips, octal: PRN 37 {}", ca(37))?;
@@ -69,13 +69,13 @@ fn write_late<W: fmt::Write>(f: &mut fmt::Formatter<W>) -> fmt::Result {
 
 // I5 and C/A.
 fn write_others<W: fmt::Write>(f: &mut fmt::Formatter<W>) -> fmt::Result {
-    let i5 = first::<13>(Signal::I5, 1, Digits::Binary);
+    let i5 = first::<13>(I5, 1, Digits::Binary);
     writeln!(f, "I5 PRN 1, first 13 chips {i5}")?;
-    let i5_at = |field| Shown(states::at_place(Signal::I5, 1, 8_190, field));
+    let i5_at = |field| Shown(states::at_place(I5, 1, 8_190, field));
     let xa = i5_at(Field::Register(Coder::Xa));
     let cycles = i5_at(Field::Cycles(Coder::Xa));
     writeln!(f, "I5 at 8,190: XA {xa}, cycles {cycles}")?;
-    let leaps = Shown(states::at_place(Signal::Ca, 1, 1_022, Field::Leaps));
+    let leaps = Shown(states::at_place(CA, 1, 1_022, Field::Leaps));
     writeln!(f, "C/A at 1,022: {leaps} leaps")?;
     let gap = Shown(states::ca_gap(0, 309_355_200_000));
     writeln!(f, "C/A gap from 0 to 309,355,200,000: {gap}")

@@ -5,10 +5,10 @@ use machine::{LAST_CL, LAST_CM};
 use pages::chips::Advance;
 use pages::text::{Digits, Shown};
 use pages::values::Value;
-use signals::Signal;
+use pages::{CA, CL, CM, I5, P, Q5};
 use std::fmt;
 
-#[derive(Clone, Copy)]
+#[derive(Clone, Copy, Debug, PartialEq, Eq)]
 pub struct Tables;
 
 impl fmt::Display for Tables {
@@ -32,20 +32,21 @@ fn write_code_phases<W: fmt::Write>(f: &mut fmt::Formatter<W>) -> fmt::Result {
          PRN  C/A   P"
     )?;
     for prn in 1..=37u64 {
-        let ca = first::<10>(Signal::Ca, prn, Digits::Octal);
-        let p = first::<12>(Signal::P, prn, Digits::Octal);
+        let ca = first::<10>(CA, prn, Digits::Octal);
+        let p = first::<12>(P, prn, Digits::Octal);
         writeln!(f, "{prn:>3}  {ca}  {p}")?;
     }
     writeln!(f)
 }
 
-// A register of L2 as a channel is opened.
-fn initial(signal: Signal, prn: u64, coder: Coder) -> Shown<Value> {
+// A register of L2 as a channel is opened. Here and below a signal is its number, as `states` takes it: a `Signal` would be
+// turned back at each call. Apart from the next, which has a place.
+fn initial(signal: u64, prn: u64, coder: Coder) -> Shown<Value> {
     Shown(states::at_open(signal, prn, Field::Register(coder)))
 }
 
 // The same at a place.
-fn register(signal: Signal, prn: u64, place: u64, coder: Coder) -> Shown<Value> {
+fn register(signal: u64, prn: u64, place: u64, coder: Coder) -> Shown<Value> {
     Shown(states::at_place(signal, prn, place, Field::Register(coder)))
 }
 
@@ -58,10 +59,10 @@ fn write_l2_states<W: fmt::Write>(f: &mut fmt::Formatter<W>) -> fmt::Result {
          PRN  L2 CM      L2 CL      L2 CM      L2 CL"
     )?;
     for prn in 1..=37u64 {
-        let cm = initial(Signal::L2Cm, prn, Coder::L2Cm);
-        let cl = initial(Signal::L2Cl, prn, Coder::L2Cl);
-        let cm_end = register(Signal::L2Cm, prn, u64::from(LAST_CM), Coder::L2Cm);
-        let cl_end = register(Signal::L2Cl, prn, u64::from(LAST_CL), Coder::L2Cl);
+        let cm = initial(CM, prn, Coder::L2Cm);
+        let cl = initial(CL, prn, Coder::L2Cl);
+        let cm_end = register(CM, prn, u64::from(LAST_CM), Coder::L2Cm);
+        let cl_end = register(CL, prn, u64::from(LAST_CL), Coder::L2Cl);
         writeln!(f, "{prn:>3}  {cm}  {cl}  {cm_end}  {cl_end}")?;
     }
     writeln!(f)
@@ -74,8 +75,8 @@ fn write_xb_states<W: fmt::Write>(f: &mut fmt::Formatter<W>) -> fmt::Result {
          PRN  I5             Q5"
     )?;
     for prn in 1..=37u64 {
-        let i5 = xb(Signal::I5, prn);
-        let q5 = xb(Signal::Q5, prn);
+        let i5 = xb(I5, prn);
+        let q5 = xb(Q5, prn);
         writeln!(f, "{prn:>3}  {i5}  {q5}")?;
     }
     writeln!(f)
@@ -83,8 +84,9 @@ fn write_xb_states<W: fmt::Write>(f: &mut fmt::Formatter<W>) -> fmt::Result {
 
 // ---- P's generators, of PRN 1
 
+// A field of P at a place. No clause: what `states` sees of a channel has none, and the gate compares all that is written.
 pub(crate) fn p_at(place: u64, field: Field) -> Shown<Value> {
-    Shown(states::at_place(Signal::P, 1, place, field))
+    Shown(states::at_place(P, 1, place, field))
 }
 
 fn write_reset_timing<W: fmt::Write>(f: &mut fmt::Formatter<W>) -> fmt::Result {
@@ -133,6 +135,7 @@ fn write_selected<W: fmt::Write>(
     write!(f, "{prn:03}  {advance:<10}  ")
 }
 
+// Apart from the next: a title and a call are all that they say, which one for both would be handed.
 fn write_first_chips<W: fmt::Write>(f: &mut fmt::Formatter<W>) -> fmt::Result {
     writeln!(
         f,

@@ -1,14 +1,13 @@
-// Where each register starts, and the two stages of G2 that a PRN's C/A code adds. A table is written anew wherever it is named, so each is named
-// once, in the function that reads a PRN's entry.
+// Where each register starts, and the two stages of G2 that a PRN's C/A code adds.
 #![tactic(auto)]
 
-ghost use Rattle.std.specs.Prelude.{◌≡◌, ◌<◌};
+ghost use Rattle.std.specs.Prelude.{◌≡◌, ℕ, ◌<◌};
 ghost use Rattle.starts.specs.Starts.{start_g1, start_g2, start_xa, start_x1a, start_x1b, start_x2a, start_x2b};
-ghost use Rattle.starts.specs.Inner.{Pairs};
 ghost use Rattle.starts.specs.Prns.{TakesPrn};
 ghost use Rattle.starts.specs.Starts.{stages_of, start_cm, start_cl, start_i5, start_q5};
 
 use refusals::Refusal;
+use registers::{G1, G2, Register, X1A, X1B, X2A, X2B, XA};
 
 mod prns;
 mod tables;
@@ -39,61 +38,68 @@ pub struct Stages {
     pub second: u32,
 }
 
-// Each start is one constant, or the entry of one table: a trait would take an `impl` for each, longer than the function.
-pub fn start_g1() -> u32
-    ensures { result ≡ start_g1 }
-{
-    0b11_1111_1111
+// A register that begins alike for every PRN.
+pub trait FixedStart: Register {
+    ghost start: { ℕ };
+
+    // Its start vector: stage k is binary digit k - 1. An associated constant would take the constant, a ghost of it and a law; this takes a clause.
+    fn start() -> u32
+        ensures { result ≡ start };
 }
 
-pub fn start_g2() -> u32
-    ensures { result ≡ start_g2 }
-{
-    0b11_1111_1111
+impl FixedStart for G1 {
+    ghost start = { start_g1 };
+
+    fn start() -> u32 {
+        0b11_1111_1111
+    }
 }
 
-pub fn start_xa() -> u32
-    ensures { result ≡ start_xa }
-{
-    0b1_1111_1111_1111
+impl FixedStart for G2 {
+    ghost start = { start_g2 };
+
+    fn start() -> u32 {
+        0b11_1111_1111
+    }
 }
 
-pub fn start_x1a() -> u32
-    ensures { result ≡ start_x1a }
-{
-    0b0010_0100_1000
+impl FixedStart for XA {
+    ghost start = { start_xa };
+
+    fn start() -> u32 {
+        0b1_1111_1111_1111
+    }
 }
 
-pub fn start_x1b() -> u32
-    ensures { result ≡ start_x1b }
-{
-    0b0101_0101_0100
+impl FixedStart for X1A {
+    ghost start = { start_x1a };
+
+    fn start() -> u32 {
+        0b0010_0100_1000
+    }
 }
 
-pub fn start_x2a() -> u32
-    ensures { result ≡ start_x2a }
-{
-    0b1001_0010_0101
+impl FixedStart for X1B {
+    ghost start = { start_x1b };
+
+    fn start() -> u32 {
+        0b0101_0101_0100
+    }
 }
 
-pub fn start_x2b() -> u32
-    ensures { result ≡ start_x2b }
-{
-    0b0101_0101_0100
+impl FixedStart for X2A {
+    ghost start = { start_x2a };
+
+    fn start() -> u32 {
+        0b1001_0010_0101
+    }
 }
 
-// The pairs of stages of eight PRNs, from PRN 8 n + 1 on, in hexadecimal digits as IS-GPS-200 lists them. They are needed at each C/A chip,
-// and numbers, unlike a table, cost nothing where they are named.
-fn pairs(n: u32) -> u64
-    requires { n < 5 }
-    ensures { Pairs n result }
-{
-    match n {
-        0 => 0x26_37_48_59_19_2a_18_29,
-        1 => 0x3a_23_34_56_67_78_89_9a,
-        2 => 0x14_25_36_47_58_69_13_46,
-        3 => 0x57_68_79_8a_16_27_38_49,
-        _ => 0x5a_4a_17_28_4a_00_00_00,
+impl FixedStart for X2B {
+    ghost start = { start_x2b };
+
+    fn start() -> u32 {
+        0b0101_0101_0100
     }
 }
 
@@ -101,15 +107,12 @@ fn pairs(n: u32) -> u64
 pub fn stages_ca(prn: Prn) -> Stages
     ensures { result ≡ stages_of prn.number }
 {
-    let n = prn.number - 1;
-    let pair = (pairs(n / 8) >> (56 - n % 8 * 8)) % 256;
-    Stages {
-        first: (pair / 16) as u32,
-        second: (pair % 16) as u32,
-    }
+    let table = &tables::STAGES; // lent: by value, all of it would be written to the stack
+    let (first, second) = table[prn.number as usize - 1];
+    Stages { first, second }
 }
 
-// The start of L2 CM for a PRN. Apart from the three that follow: the table is all that each says, and a table is named once.
+// The start of L2 CM for a PRN. Apart from the three that follow: a trait would take an `impl` for each, longer than the function.
 #[tactic(auto, unfolding(crate::specs::Starts::start_cm, crate::specs::Starts::starts_cm))]
 pub fn start_cm(prn: Prn) -> u32
     ensures { result ≡ start_cm prn.number }

@@ -5,7 +5,7 @@ use engine::{Refusal, Sought};
 use layout::{Coder, Field};
 use machine::{Channel, Generator};
 use pages::values::Value;
-use signals::Signal;
+use pages::{CA, P};
 
 // ---- fields
 
@@ -18,13 +18,13 @@ fn generator(ch: Channel, coder: Coder) -> Generator {
     }
 }
 
-fn seen(signal: Signal, sought: Sought, field: Field) -> Value {
+fn seen(sought: Sought, field: Field) -> Value {
     let ch = sought.channel;
     match field {
         Field::Leaps => Value::Count(u64::from(sought.leaps)),
         Field::Epoch => Value::Count(u64::from(ch.epoch)),
         Field::Register(coder) => Value::Register {
-            signal,
+            signal: u64::from(ch.signal),
             stages: generator(ch, coder).register,
         },
         Field::Chip(coder) => Value::Chip(u64::from(generator(ch, coder).phase) + 1),
@@ -36,35 +36,31 @@ fn seen(signal: Signal, sought: Sought, field: Field) -> Value {
 
 // ---- places
 
-fn open(signal: Signal, prn: u64) -> Result<Channel, Refusal> {
-    engine::open(u64::from(signal.number()), prn)
-}
-
-// Where open and seek lead.
-pub fn reach(signal: Signal, prn: u64, place: u64) -> Result<Sought, Refusal> {
-    let opened = open(signal, prn)?;
+// Where open and seek lead, or the refusal of the one that refused. Here and below a signal is a number: any is taken, and a `Signal` would ask more of callers.
+pub fn reach(signal: u64, prn: u64, place: u64) -> Result<Sought, Refusal> {
+    let opened = engine::open(signal, prn)?;
     Ok(engine::seek(opened, place)?)
 }
 
 // A field of a channel as open gives it, or open's refusal.
-pub fn at_open(signal: Signal, prn: u64, field: Field) -> Result<Value, Refusal> {
-    let channel = open(signal, prn)?;
-    Ok(seen(signal, Sought { leaps: 0, channel }, field))
+pub fn at_open(signal: u64, prn: u64, field: Field) -> Result<Value, Refusal> {
+    let channel = engine::open(signal, prn)?;
+    Ok(seen(Sought { leaps: 0, channel }, field))
 }
 
 // A field of a channel that open and seek brought to a place, in chips of the week, or their refusal.
-pub fn at_place(signal: Signal, prn: u64, place: u64, field: Field) -> Result<Value, Refusal> {
+pub fn at_place(signal: u64, prn: u64, place: u64, field: Field) -> Result<Value, Refusal> {
     let sought = reach(signal, prn, place)?;
-    Ok(seen(signal, sought, field))
+    Ok(seen(sought, field))
 }
 
 // ---- a step
 
 // Whether P's step from there gives the opened channel.
 pub fn step_from(place: u64) -> Result<Value, Refusal> {
-    let sought = reach(Signal::P, 1, place)?;
+    let sought = reach(P, 1, place)?;
     let stepped = engine::step(sought.channel)?;
-    if stepped.channel == open(Signal::P, 1)? {
+    if stepped.channel == engine::open(P, 1)? {
         Ok(Value::Opened)
     } else {
         Ok(Value::Another)
@@ -75,6 +71,6 @@ pub fn step_from(place: u64) -> Result<Value, Refusal> {
 
 // Between two places of C/A.
 pub fn ca_gap(a: u64, b: u64) -> Result<Value, Refusal> {
-    let chips = places::gap(u64::from(Signal::Ca.number()), a, b)?;
+    let chips = places::gap(CA, a, b)?;
     Ok(Value::Gap(chips))
 }

@@ -2,15 +2,19 @@
 
 ghost use Rattle.std.specs.Prelude.{ℕ, ◌≡◌, ⊤};
 ghost use Rattle.starts.specs.Starts.{stages_of, start_cm, start_cl, start_i5, start_q5};
-ghost use Rattle.machine.specs.Signals.{Signal, signal_ca, signal_p, from_cm, from_cl, from_l5};
+ghost use Rattle.machine.specs.Signals.{Signal, signal_ca, signal_p, from_l5};
 ghost use Rattle.machine.specs.Machine.{step_as};
+ghost use Rattle.steps.specs.Inner.{from_l2};
 ghost use Rattle.stepped.specs.Inner.{Of};
 
 use machine::Channel;
 use starts::{Prn, Stages};
+use std::marker::PhantomData;
+use steps::L2Code;
 
-// Its value holds what the PRN decides. That a channel is of the family, and that the value is its PRN's, are clauses of both functions: no type of a channel
-// knows the family. One impl for each family, for each names other functions of `steps` and another start.
+// A family. Its value holds what the PRN decides.
+// That a channel is of the family, and the value its PRN's, are clauses: no type of a channel knows the family.
+// One impl for each family: each names other functions of `steps` and another start.
 pub trait Family: Copy {
     // The signal of each PRN, given that value.
     ghost signal: { Self → ℕ → Signal };
@@ -18,11 +22,13 @@ pub trait Family: Copy {
     // The value holds what this PRN decides.
     ghost decided: { Self → ℕ → Type 0 };
 
+    // The present chip, 0 or 1.
     fn chip(self, ch: Channel) -> u8
         requires of { Of (signal self) ch }
         requires decided { decided self ch.prn }
         ensures { result ≡ (signal self ch.prn).chip ch };
 
+    // The channel one step on.
     fn step(self, ch: Channel) -> Channel
         requires of { Of (signal self) ch }
         requires decided { decided self ch.prn }
@@ -30,12 +36,13 @@ pub trait Family: Copy {
 }
 
 // C/A, with the two stages of G2 that its PRN adds.
-#[derive(Clone, Copy)]
+#[derive(Clone, Copy, Debug, PartialEq, Eq)]
 pub struct Ca {
     pub stages: Stages,
 }
 
 impl Ca {
+    // For a PRN.
     pub fn of(prn: Prn) -> Ca
         ensures { result.stages ≡ stages_of prn.number }
     {
@@ -60,7 +67,7 @@ impl Family for Ca {
 }
 
 // P.
-#[derive(Clone, Copy)]
+#[derive(Clone, Copy, Debug, PartialEq, Eq)]
 pub struct P;
 
 impl Family for P {
@@ -77,74 +84,65 @@ impl Family for P {
     }
 }
 
-// L2 CM, from its start.
-#[derive(Clone, Copy)]
-pub struct Cm {
+// One of L2's codes, from its start.
+#[derive(Clone, Copy, Debug, PartialEq, Eq)]
+pub struct L2<C> {
     pub start: u32,
+    code: PhantomData<C>,
 }
 
+pub type Cm = L2<generators::Cm>;
+
+pub type Cl = L2<generators::Cl>;
+
+// Two functions `of`, for each ensures another start.
 impl Cm {
+    // For a PRN.
     pub fn of(prn: Prn) -> Cm
         ensures { result.start ≡ start_cm prn.number }
     {
-        Cm {
+        L2 {
             start: starts::start_cm(prn),
+            code: PhantomData,
         }
     }
-}
-
-impl Family for Cm {
-    ghost signal = { λ family prn. from_cm family.start };
-
-    ghost decided = { λ family prn. ⊤ };
-
-    fn chip(self, ch: Channel) -> u8 {
-        steps::chip_cm(ch)
-    }
-
-    fn step(self, ch: Channel) -> Channel {
-        steps::step_cm(ch, self.start)
-    }
-}
-
-// L2 CL, from its start.
-#[derive(Clone, Copy)]
-pub struct Cl {
-    pub start: u32,
 }
 
 impl Cl {
+    // For a PRN.
     pub fn of(prn: Prn) -> Cl
         ensures { result.start ≡ start_cl prn.number }
     {
-        Cl {
+        L2 {
             start: starts::start_cl(prn),
+            code: PhantomData,
         }
     }
 }
 
-impl Family for Cl {
-    ghost signal = { λ family prn. from_cl family.start };
+impl<C: L2Code> Family for L2<C> {
+    ghost signal = { λ family prn. from_l2 C.is_first C.cycle family.start };
 
     ghost decided = { λ family prn. ⊤ };
 
     fn chip(self, ch: Channel) -> u8 {
-        steps::chip_cl(ch)
+        steps::chip_l2::<C>(ch)
     }
 
     fn step(self, ch: Channel) -> Channel {
-        steps::step_cl(ch, self.start)
+        steps::step_l2::<C>(ch, self.start)
     }
 }
 
 // I5 and Q5, from XB's start.
-#[derive(Clone, Copy)]
+#[derive(Clone, Copy, Debug, PartialEq, Eq)]
 pub struct L5 {
     pub start: u32,
 }
 
 // Two functions, for each ensures another start.
 impl L5 {
+    // I5's, for a PRN.
     pub fn of_i5(prn: Prn) -> L5
         ensures { result.start ≡ start_i5 prn.number }
     {
@@ -153,6 +151,7 @@ impl L5 {
         }
     }
 
+    // Q5's, for a PRN.
     pub fn of_q5(prn: Prn) -> L5
         ensures { result.start ≡ start_q5 prn.number }
     {

@@ -1,3 +1,2 @@
 -- `EveryInput` is the theorem.
-pub mod Streams
 pub mod EveryInput

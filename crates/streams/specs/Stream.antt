@@ -4,6 +4,7 @@ use Rattle.std.specs.Prelude.{ℕ, cond, List, [], ◌∷◌, ◌++◌, eqb, tak
 use Rattle.texts.specs.Texts.{refused_line}
 use Rattle.texts.specs.Saying.{rest_of, replies_of}
 use Rattle.lines.specs.Lines.{line_reply}
+use Rattle.line_programs.specs.Dialogs.{Course}
 
 -- the bytes of the line that has no newline yet, after one byte more
 abbrev pub next : List ℕ → ℕ → List ℕ
@@ -37,3 +38,8 @@ answers input = replies [] input ++ last_reply (rest [] input)
 
 abbrev pub kept : List ℕ → List ℕ
 kept line = take 56 line
+
+-- ---- all that a stream does with bytes
+
+abbrev pub course : Course (List ℕ)
+course = record { kept = kept; next = next; said = said; last = last_reply }

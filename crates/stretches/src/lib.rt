@@ -30,9 +30,8 @@ pub fn stretch_of(g: Generator, last: u32) -> u32
     }
 }
 
-// Whether a generator's register is the one of its phase. The table begins `from` chips before phase 0. A table, where it begins and its width are three
-// arguments: the tables are arrays of several lengths, and a struct that borrows one would be made at each call. The two facts of the width are found by
-// computing, for each call gives it as a number.
+// Whether a generator's register is the one of its phase. The table begins `from` chips before phase 0. Here and below a table, where it begins and its
+// stages are arguments beside one another, since each call gives the last two as numbers: a struct of the three would need facts of them at each use.
 pub fn fits(g: Generator, sequence: &[u64], from: usize, width: u32) -> bool
     requires table_begins_near { from ≤ 65536 }
     requires phase_in_bounds { (from + g.phase) / 64 + 1 < length sequence.now }
@@ -44,6 +43,7 @@ pub fn fits(g: Generator, sequence: &[u64], from: usize, width: u32) -> bool
 }
 
 // The 64 chips that stage k gives from n steps on in a stretch.
+#[tactic(auto, unfolding(registers::specs::Register::stage))]
 pub fn word_of(g: Generator, k: u32, sequence: &[u64], from: usize, n: usize) -> u64
     requires within { Within g from n (length sequence.now) }
     requires some_stage { 1 ≤ k }
@@ -52,7 +52,7 @@ pub fn word_of(g: Generator, k: u32, sequence: &[u64], from: usize, n: usize) ->
 {
     match g.mode {
         Mode::Running => sequences::word_at(sequence, from + g.phase as usize + n),
-        Mode::Held(_) => ((g.register >> (k - 1)) % 2) as u64 * 0xffff_ffff_ffff_ffff,
+        Mode::Held(_) => u64::from((g.register >> (k - 1)) % 2) * u64::MAX,
     }
 }
 

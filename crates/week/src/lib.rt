@@ -12,16 +12,17 @@ use generators::{Cl, Cm, Code};
 use machine::Mode;
 use registers::{G1, G2, X1A, X1B, X2A, X2B, XA, XB};
 
-// How a generator goes through the week, in chips.
+// How a generator goes through the week, in chips. Each number is a bound, and none stands for "never": an Option would be asked at each seek, and each
+// formula stand twice.
 #[derive(Clone, Copy, Debug, PartialEq, Eq)]
 pub struct Course {
     // A whole cycle.
     pub cycle: u64,
-    // From its start to where it is held; to its start again where it never is.
+    // The chips of a period in which it runs, before it is held: all of them where it is held in none.
     pub runs: u64,
     // From its start to its start again.
     pub period: u64,
-    // The place from which it is held up to the week's end; the week's end itself where it never is.
+    // The chips of the week in which its periods follow one another, before it is held up to the week's end: all of them where it isn't held there.
     pub stop: u64,
     // W.
     pub week: u64,
@@ -35,13 +36,10 @@ pub struct Standing {
     pub mode: Mode,
 }
 
-// Never held: all its cycles, time and again. The three plans are three formulas, each written once for every type.
-fn unheld_course<C: Code>(week: u64) -> Course
-    requires { C.kind.highest < 2 ^ 12 }
-    ensures { result ≡ unheld week (C.kind.last 0 + 1) ((C.kind.highest + 1) * (C.kind.last 0 + 1)) }
+// Never held: whole periods, up to the week's end.
+fn unheld(week: u64, cycle: u64, period: u64) -> Course
+    ensures { result ≡ unheld week cycle period }
 {
-    let cycle = C::last(0) as u64 + 1;
-    let period = (C::highest() as u64 + 1) * cycle;
     Course {
         cycle,
         runs: period,
@@ -51,17 +49,26 @@ fn unheld_course<C: Code>(week: u64) -> Course
     }
 }
 
+// Never held: all its cycles, time and again. The three plans are three formulas, each written once for every type.
+fn unheld_course<C: Code>(week: u64) -> Course
+    requires { C.kind.highest < 2 ^ 12 }
+    ensures { result ≡ unheld week (C.kind.last 0 + 1) ((C.kind.highest + 1) * (C.kind.last 0 + 1)) }
+{
+    let cycle = u64::from(C::last(0)) + 1;
+    unheld(week, cycle, (u64::from(C::highest()) + 1) * cycle)
+}
+
 // Held at the last chip of its last cycle, with so many chips still to repeat.
 fn held_course<C: Code>(stop: u64, chips: u32) -> Course
     requires { C.kind.highest < 2 ^ 12 }
     ensures { result ≡ held stop (C.kind.last 0 + 1) (C.kind.highest + 1) chips }
 {
-    let cycle = C::last(0) as u64 + 1;
-    let cycles = (C::highest() as u64 + 1) * cycle;
+    let cycle = u64::from(C::last(0)) + 1;
+    let cycles = (u64::from(C::highest()) + 1) * cycle;
     Course {
         cycle,
         runs: cycles - 1,
-        period: cycles + chips as u64,
+        period: cycles + u64::from(chips),
         stop,
         week: machine::WEEK_P,
     }
@@ -71,21 +78,15 @@ fn held_course<C: Code>(stop: u64, chips: u32) -> Course
 fn cut_course<C: Code>() -> Course
     ensures { result ≡ unheld week_l5 (C.kind.last 0 + 1) ((C.kind.last 0 + 1) + (C.kind.last 1 + 1)) }
 {
-    let cycle = C::last(0) as u64 + 1;
-    let period = cycle + (C::last(1) as u64 + 1);
-    Course {
-        cycle,
-        runs: period,
-        period,
-        stop: machine::WEEK_L5,
-        week: machine::WEEK_L5,
-    }
+    let cycle = u64::from(C::last(0)) + 1;
+    unheld(machine::WEEK_L5, cycle, cycle + (u64::from(C::last(1)) + 1))
 }
 
 // A generator that goes through the week by a course.
 pub trait Coursed: Code {
     ghost course: { Course };
 
+    // Its course. An associated constant would take the constant, a ghost of it and a law; this takes a clause.
     fn course() -> Course
         ensures { result ≡ course };
 

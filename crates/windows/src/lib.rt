@@ -4,6 +4,7 @@
 ghost use Rattle.std.specs.Prelude.{◌≡◌, ◌++◌, ◌≤◌, length, drop};
 ghost use Rattle.machine.specs.Machine.{advance, chips};
 ghost use Rattle.machine.specs.Ranged.{Ranged};
+ghost use Rattle.stepped.specs.Inner.{WindowFrom};
 
 use digits::Spread;
 use machine::Channel;
@@ -18,10 +19,11 @@ pub const MOST_CHIPS: u64 = 65_536;
 const SHORT: usize = 32;
 
 // Writes the chips of a channel in range over a slice, by the tables of its signal, and gives the channel after them. That it is in range is a clause here and
-// below: a tested channel comes as well as one that was made, and goes on to its family as it is.
+// below: an `InRange` would be made of the channel that a seek gives, and taken apart again in each arm.
+// A match: each arm names another crate's function, so a chooser shared with `stepped::write_chips` would be a trait with a method for each arm.
 fn write_by_tables(ch: Channel, out: &mut [u8]) -> Channel
     requires { Ranged ch }
-    ensures { (result ≡ advance (length out.old) ch) × (out.new ≡ chips (length out.old) ch) }
+    ensures { WindowFrom ch out.old out.new result }
 {
     let spread = Spread::new();
     let prn = Prn { number: ch.prn };
@@ -35,7 +37,9 @@ fn write_by_tables(ch: Channel, out: &mut [u8]) -> Channel
     }
 }
 
-// Writes the chips of `count` steps from a channel in range, and gives the channel after them.
+// Writes the chips of `count` steps from a channel in range to the front of a slice, and gives the channel after them.
+// A count beside the slice: `window` lends its buffer from `at` on, so that the sum of `at` and the count, which may wrap, is never formed.
+#[inline(always)]
 pub fn write_chips(ch: Channel, count: usize, out: &mut [u8]) -> Channel
     requires ranged { Ranged ch }
     requires count_in_bounds { count ≤ length out.old }

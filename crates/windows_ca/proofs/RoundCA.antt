@@ -17,7 +17,7 @@ use lib.Dec.{lit≤, lit<, eqb}
 use lib.ListN.{length}
 use borrow.Author.Tests.{ne_eqb, eq-eqb}
 use Rattle.registers.specs.Times.{times}
-use Rattle.registers.specs.Register.{stage, shift, shift_g1, shift_g2, taps_g1, taps_g2}
+use Rattle.registers.specs.Register.{stage, shift_g1, shift_g2, taps_g1, taps_g2}
 use Rattle.registers.proofs.Repeat.{times_round}
 use Rattle.starts.specs.Starts.{stages_of, start_g1, start_g2}
 use Rattle.starts.specs.declared.Stages.{Stages}
@@ -33,10 +33,11 @@ use Rattle.machine.specs.declared.Channel.{Channel}
 use Rattle.machine.proofs.Advance.{advance_none, advance_last}
 use Rattle.machine.proofs.Numbered.{step_is, chip_is}
 use Rattle.machine.proofs.Running.{lacking_stays}
-use Rattle.sequences.specs.Sequences.{sequence, word_in}
+use Rattle.sequences.specs.Sequences.{word_in}
+use Rattle.sequences.proofs.Chips.{register_read}
 use Rattle.digits.specs.Digits.{row}
 use Rattle.stretches.proofs.Along.{chips_row}
-use Rattle.stretches.proofs.Tables.{table_length, register_there, fits_is}
+use Rattle.stretches.proofs.Tables.{table_length, fits_is}
 use Rattle.stepped.specs.Inner.{Of}
 use Rattle.windows_ca.specs.Periods.{Tables, Fitting, Readable, chip_on, in_cycle}
 use Rattle.windows_ca.proofs.RoundG.{comes_again, on, begins, goes_on}
@@ -135,19 +136,12 @@ readable ch of stages stages_are =
 
 -- ---- registers, read from the tables
 
--- the register of a phase, of ten stages
-registers_10 : (taps : List ℕ) (start : ℕ) (seq : List ℕ) → seq ≡ sequence (shift 10 taps) 10 34 start → start < 2 ^ 10
-    → (q : ℕ) → q ≤ 1022 → word_in seq (0 + q) / 2 ^ (64 - 10) ≡ times (shift 10 taps) q start
-unfolding times
-registers_10 taps start seq is small q h =
-    ap (λ (l : List ℕ). word_in l (0 + q) / 2 ^ (64 - 10)) is ∙ register_there 10 taps 34 start 0 q (lit< tt) (lit≤ tt) small (omega (arith, h))
-
 module _ (a b : List ℕ) (t : Tables a b) where
   registers_g1 : (q : ℕ) → q ≤ 1022 → word_in a (0 + q) / 2 ^ (64 - 10) ≡ times shift_g1 q start_g1
-  registers_g1 = registers_10 taps_g1 start_g1 a t.table_g1 (lit< tt)
+  registers_g1 q h = register_read 10 taps_g1 34 start_g1 a t.table_g1 (lit≤ tt) (lit< tt) (lit< tt) q (omega (arith, h))
 
   registers_g2 : (q : ℕ) → q ≤ 1022 → word_in b (0 + q) / 2 ^ (64 - 10) ≡ times shift_g2 q start_g2
-  registers_g2 = registers_10 taps_g2 start_g2 b t.table_g2 (lit< tt)
+  registers_g2 q h = register_read 10 taps_g2 34 start_g2 b t.table_g2 (lit≤ tt) (lit< tt) (lit< tt) q (omega (arith, h))
 
   pub lengths : (length a ≡ 34) × (length b ≡ 34)
   lengths = (rw t.table_g1 (table_length shift_g1 10 34 start_g1), rw t.table_g2 (table_length shift_g2 10 34 start_g2))

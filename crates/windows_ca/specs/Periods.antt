@@ -1,6 +1,6 @@
 -- C/A from the tables of G1 and G2, for the contracts of inner functions: `proofs/RoundCA.antt` shows it to be the machine's.
 -- Assumes nothing.
-use Rattle.std.specs.Prelude.{ℕ, ◌+◌, ◌%◌, ◌≤◌, ◌≡◌, List, ◌++◌, length, drop}
+use Rattle.std.specs.Prelude.{ℕ, ◌+◌, ◌%◌, ◌≤◌, ◌≡◌, List, length, take, min}
 use Rattle.registers.specs.Times.{times}
 use Rattle.registers.specs.Register.{stage, shift_g1, shift_g2}
 use Rattle.starts.specs.Starts.{start_g1, start_g2}
@@ -44,8 +44,10 @@ chip_on stages ch j =
 abbrev pub in_cycle : ℕ → ℕ → Generator
 in_cycle register phase = record { register = register; phase = phase; cycles = 0; mode = Running }
 
--- a slice that was filled as far as `from` with numbers that come again after 1,023 is now filled with them as far as `to`
-abbrev pub Repeated : ℕ → ℕ → List ℕ → List ℕ → Type 0
-Repeated from to before after =
-    (x : ℕ → ℕ) (old : List ℕ) → ((j : ℕ) → x (j + 1023) ≡ x j) → to ≤ length old → before ≡ row x from ++ drop from old
-    → after ≡ row x to ++ drop to old
+-- the first n numbers of a list are x 0, x 1 .. or all of them, if it has fewer
+abbrev pub Begins : (ℕ → ℕ) → ℕ → List ℕ → Type 0
+Begins x n list = take (min n (length list)) list ≡ row x (min n (length list))
+
+-- a slice whose first period is filled with numbers that come again after 1,023 is now filled with them whole
+abbrev pub Repeated : List ℕ → List ℕ → Type 0
+Repeated before after = (x : ℕ → ℕ) → ((j : ℕ) → x (j + 1023) ≡ x j) → Begins x 1023 before → after ≡ row x (length before)

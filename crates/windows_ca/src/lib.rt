@@ -3,18 +3,19 @@
 // register to be the one of its phase, which is tested; other channels are stepped.
 #![tactic(auto)]
 
-ghost use Rattle.std.specs.Prelude.{◌≡◌, true, ◌++◌, ◌+◌, ◌-◌, ◌/◌, ◌%◌, ◌<◌, ◌≤◌, ◌^◌, length, drop};
+ghost use Rattle.std.specs.Prelude.{◌≡◌, true, ◌+◌, ◌-◌, ◌/◌, ◌%◌, ◌≤◌, ◌^◌, length};
 ghost use Rattle.starts.specs.Starts.{stages_of};
 ghost use Rattle.machine.specs.Signals.{signal_ca};
-ghost use Rattle.machine.specs.Machine.{advance, chips};
 ghost use Rattle.machine.specs.Ranged.{RangedAs};
 ghost use Rattle.digits.specs.Digits.{row};
 ghost use Rattle.sequences.specs.Sequences.{word_in, Tells};
-ghost use Rattle.stepped.specs.Inner.{Of};
+ghost use Rattle.stepped.specs.Inner.{Of, WindowFrom};
 ghost use Rattle.windows_ca.specs.Periods.{Tables, Fitting, Readable, chip_on, in_cycle, Repeated};
 
 use digits::Spread;
 use machine::{Channel, Generator, Mode};
+use registers::{G1, G2};
+use sequences::Sequence;
 use starts::Stages;
 use stepped::Ca;
 
@@ -35,6 +36,7 @@ struct ByTables<'a> {
 
 impl ByTables<'_> {
     // The next 64 chips from i steps on. What a stage of G2 gives, its last stage gives so many steps later as it stands behind it.
+    #[tactic(auto, using(crate::proofs::RoundCA::lengths, crate::proofs::WordsCA::word_chips))]
     fn word_on(&self, ch: Channel, i: usize) -> u64
         requires readable { Readable self.now.stages ch }
         requires in_period { i ≤ 1022 }
@@ -47,24 +49,26 @@ impl ByTables<'_> {
         first ^ second ^ third
     }
 
-    // Writes the next n chips, one period of them at most, from the tables: whole words, and the last chips in a part of a word.
-    fn write_period(&self, ch: Channel, n: usize, out: &mut [u8])
+    // Writes the next chips over a slice of at most one period, from the tables: whole words, and the last chips in a part of a word.
+    // L5's run is written likewise by other clauses: a closure for the word would have to state them.
+    #[tactic(auto, using(digits::proofs::Rows::row_none))]
+    fn write_period(&self, ch: Channel, out: &mut [u8])
         requires readable { Readable self.now.stages ch }
-        requires one_period { n ≤ 1023 }
-        requires n_in_bounds { n ≤ length out.old }
-        ensures { out.new ≡ row (chip_on self.now.stages ch) n ++ drop n out.old }
+        requires one_period { length out.old ≤ 1023 }
+        ensures { out.new ≡ row (chip_on self.now.stages ch) (length out.old) }
     {
-        for block in 0..n / 64 {
-            let i = block * 64;
-            let word = self.word_on(ch, i);
-            digits::write_whole(word, self.spread, &mut out[i..]);
+        let words = out.len() / 64;
+        // no `chunks_exact_mut`: its contract tells a proof the length alone of a slice that is written by its parts
+        for word in 0..words {
+            let i = word * 64;
+            self.spread.write(self.word_on(ch, i), &mut out[i..i + 64]);
         }
-        let i = n / 64 * 64;
-        let word = self.word_on(ch, i);
-        digits::write_word(word, (n - i) as u32, self.spread, &mut out[i..]);
+        let i = words * 64;
+        self.spread.write(self.word_on(ch, i), &mut out[i..]);
     }
 
-    // Whether each register is the one of its phase.
+    // Whether each register is the one of its phase. One for all signals would be handed each table and its stages.
+    #[tactic(auto, using(crate::proofs::RoundCA::lengths))]
     fn fitting(&self, ch: Channel) -> bool
         requires { RangedAs (signal_ca ch.prn) ch }
         ensures { result ≡ true → Fitting ch }
@@ -74,17 +78,17 @@ impl ByTables<'_> {
         first & second
     }
 
-    // Writes the chips of a channel that fits over a slice, and gives the channel after them.
+    // Writes the chips of a channel that fits over a slice, and gives the channel after them. No type of a channel knows its signal, its stages or its registers:
+    // three clauses.
     fn write_all(&self, ch: Channel, out: &mut [u8]) -> Channel
         requires of { Of signal_ca ch }
-        requires stages_value { self.now.stages ≡ stages_of ch.prn }
+        requires stages_of_prn { self.now.stages ≡ stages_of ch.prn }
         requires fitting { Fitting ch }
-        ensures { (result ≡ advance (length out.old) ch) × (out.new ≡ chips (length out.old) ch) }
+        ensures { WindowFrom ch out.old out.new result }
     {
         let count = out.len();
-        let n = count.min(PERIOD);
-        self.write_period(ch, n, out);
-        repeat(n, count, out);
+        self.write_period(ch, &mut out[..count.min(PERIOD)]);
+        repeat(out);
         Channel {
             place: (ch.place + count as u64 % machine::WEEK_CA) % machine::WEEK_CA,
             first: turned(ch.first, &self.g1, count),
@@ -96,14 +100,11 @@ impl ByTables<'_> {
 
 // ---- the further periods
 
-// Fills a slice from `from` to `to` with what stands one period before.
-fn repeat(from: usize, to: usize, out: &mut [u8])
-    requires from_le_to { from ≤ to }
-    requires a_period_before { from < to → 1023 ≤ from }
-    requires to_in_bounds { to ≤ length out.old }
-    ensures { Repeated from to out.old out.new }
+// Fills a slice from its second period on with what stands one period before. No `copy_within`: it would go by periods, and reckon where each begins.
+fn repeat(out: &mut [u8])
+    ensures { Repeated out.old out.new }
 {
-    for i in from..to {
+    for i in PERIOD..out.len() {
         out[i] = out[i - PERIOD];
     }
 }
@@ -126,15 +127,16 @@ fn turned(g: Generator, table: &[u64; 34], n: usize) -> Generator
 
 // ---- the window
 
-// Writes the chips of a C/A channel over a slice, and gives the channel after them.
+// Writes the chips of a C/A channel over a slice, and gives the channel after them. No type of a channel knows its signal or its stages: two clauses; the table
+// of digits is made once, in `windows`, and lent, for it is written anew wherever it is made.
 pub fn write(family: Ca, ch: Channel, spread: &Spread, out: &mut [u8]) -> Channel
     requires of { Of signal_ca ch }
-    requires stages_value { family.stages ≡ stages_of ch.prn }
-    ensures { (result ≡ advance (length out.old) ch) × (out.new ≡ chips (length out.old) ch) }
+    requires stages_of_prn { family.stages ≡ stages_of ch.prn }
+    ensures { WindowFrom ch out.old out.new result }
 {
     let tables = ByTables {
-        g1: sequences::g1(),
-        g2: sequences::g2(),
+        g1: G1::sequence(),
+        g2: G2::sequence(),
         stages: family.stages,
         spread,
     };

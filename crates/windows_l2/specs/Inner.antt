@@ -1,4 +1,4 @@
--- A run of twenty-fours, for the contracts of inner functions: `specs/Laws.antt` shows it to be so many steps of the machine's.
+-- A run of twenty-fours, for the contracts of inner functions: `proofs/RunsOfTwentyFours.antt` shows it to be so many steps of the machine's.
 -- Assumes nothing.
 use Rattle.std.specs.Prelude.{ℕ, ◌+◌, ◌*◌, ◌/◌, ◌<◌, ◌≤◌, ◌≡◌}
 use Rattle.registers.specs.Times.{times}

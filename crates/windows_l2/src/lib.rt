@@ -2,29 +2,28 @@
 // single steps. Each of the two has one generator, and the generators that it lacks stay as they are.
 #![tactic(auto)]
 
-ghost use Rattle.std.specs.Prelude.{◌≡◌, length};
-ghost use Rattle.machine.specs.Machine.{advance, chips};
-ghost use Rattle.stepped.specs.Inner.{Of};
+ghost use Rattle.steps.specs.Inner.{from_l2};
+ghost use Rattle.stepped.specs.Inner.{Of, WindowFrom};
 
 use digits::Spread;
 use machine::Channel;
+use stepped::L2;
+use steps::L2Code;
 use twenty_fours::Table;
 
-mod codes;
 mod runs;
 
-pub use codes::Code;
 use runs::TwentyFours;
 
-// Writes the chips of a channel of L2 CM or L2 CL over a slice, and gives the channel after them.
-pub fn write<C: Code>(code: C, ch: Channel, spread: &Spread, out: &mut [u8]) -> Channel
-    requires { Of (C.signal code) ch }
-    ensures { (result ≡ advance (length out.old) ch) × (out.new ≡ chips (length out.old) ch) }
+// Writes the chips of a channel of L2 CM or L2 CL over a slice, and gives the channel after them. `Of` is a clause, for no type of a channel knows its signal;
+// the table of digits is made once, in `windows`, and lent, for it is written anew wherever it is made.
+pub fn write<C: L2Code>(code: L2<C>, ch: Channel, spread: &Spread, out: &mut [u8]) -> Channel
+    requires { Of (λ prn. from_l2 C.is_first C.cycle code.start) ch }
+    ensures { WindowFrom ch out.old out.new result }
 {
     let runs = TwentyFours {
         code,
-        table: Table::new(),
-        spread,
+        table: Table::new(spread),
     };
     stepped::write_by_runs(&runs, ch, out)
 }

@@ -1,23 +1,30 @@
 // A run of one generator: so many twenty-fours of chips.
 
-ghost use Rattle.std.specs.Prelude.{◌≡◌, true, false, ◌+◌, ◌*◌, ◌/◌, ◌%◌, ◌<◌, ◌^◌, length};
+ghost use Rattle.std.specs.Prelude.{◌≡◌, ⊤, true, false, ◌+◌, ◌-◌, ◌*◌, ◌/◌, ◌%◌, ◌<◌, ◌^◌, length};
 ghost use Rattle.digits.specs.Digits.{row};
 ghost use Rattle.machine.specs.Generators.{mode_in_range};
 ghost use Rattle.machine.specs.Signals.{week_l2};
+ghost use Rattle.steps.specs.Inner.{own_of, from_l2};
 ghost use Rattle.stepped.specs.Inner.{RunAtMost};
 ghost use Rattle.windows_l2.specs.Inner.{ahead_l2, IsRun};
 
-use crate::codes::Code;
-use digits::Spread;
-use machine::{Channel, Generator, Mode};
-use stepped::Runs;
+use machine::{Channel, Generator};
+use stepped::{L2, Runs};
+use steps::L2Code;
 use twenty_fours::Table;
 
+// What a window of one of the two codes is written by.
 #[derive(Drop)]
-pub struct TwentyFours<'a, C: Code> {
-    pub code: C,
-    pub table: Table,
-    pub spread: &'a Spread,
+pub struct TwentyFours<'a, C: L2Code> {
+    pub code: L2<C>,
+    pub table: Table<'a>,
+}
+
+// The last phase of a code's cycle, the same in each.
+fn last<C: L2Code>() -> u32
+    ensures { result ≡ C.cycle - 1 }
+{
+    C::last(0)
 }
 
 // The chips before the last phase of the cycle and before the week's end, in at most `most`, by whole twenty-fours. Only the place of a channel comes here,
@@ -32,8 +39,9 @@ fn run_before(g: Generator, last: u32, place: u64, most: usize) -> Option<usize>
     if 0 < n { Some(n) } else { None }
 }
 
-// Writes the chips of a run over a slice and gives the generator after them. It runs all along.
-fn write_run(g: Generator, table: &Table, spread: &Spread, out: &mut [u8]) -> Generator
+// Writes the chips of a run over a slice and gives the generator after them. It runs all along, so its mode stays. That
+// the register is one of 27 stages is a clause here and in `twenty_fours`: a generator's register is a number.
+fn write_run(g: Generator, table: &Table<'_>, out: &mut [u8]) -> Generator
     requires register_of_l2 { g.register < 2 ^ 27 }
     requires never_held { mode_in_range false g.mode ≡ true }
     requires phase_fits { g.phase + length out.old < 2 ^ 32 }
@@ -42,26 +50,33 @@ fn write_run(g: Generator, table: &Table, spread: &Spread, out: &mut [u8]) -> Ge
 {
     let n = out.len();
     Generator {
-        register: twenty_fours::write_twenty_fours(table, spread, g.register, n / 24, out),
+        register: table.write(g.register, out),
         phase: g.phase + n as u32,
-        cycles: g.cycles,
-        mode: Mode::Running,
+        ..g
     }
 }
 
-impl<C: Code> Runs for TwentyFours<'_, C> {
-    ghost signal = { λ runs. C.signal runs.code };
+impl<C: L2Code> Runs for TwentyFours<'_, C> {
+    ghost signal = { λ runs prn. from_l2 C.is_first C.cycle runs.code.start };
 
-    ghost is_run = { λ runs n ch. IsRun C.last ch.place (C.own ch) n };
+    ghost is_run = { λ runs n ch. IsRun (C.cycle - 1) ch.place (own_of C.is_first ch) n };
 
-    fn run_of(&self, ch: Channel, most: usize) -> Option<usize> {
-        run_before(C::own(ch), C::last(), ch.place, most)
+    // Its chips are shifted from its register, whichever that is.
+    ghost fits = { λ runs ch. ⊤ };
+
+    fn run_before(&self, ch: Channel, most: usize) -> Option<usize> {
+        run_before(C::own(ch), last::<C>(), ch.place, most)
+    }
+
+    fn fitting(&self, _ch: Channel) -> bool {
+        true
     }
 
     fn go_along(&self, ch: Channel, out: &mut [u8]) -> Channel {
         let n = out.len();
-        let after = write_run(C::own(ch), &self.table, self.spread, out);
-        C::moved(n, after, ch)
+        let after = write_run(C::own(ch), &self.table, out);
+        let there = C::with_own(ch, after);
+        plain_runs::move_by(ch, n, there.first, there.second)
     }
 
     fn step_along(&self, ch: Channel, out: &mut [u8]) -> Channel {

@@ -3,19 +3,20 @@
 // is tested; other channels are stepped.
 #![tactic(auto)]
 
-ghost use Rattle.std.specs.Prelude.{◌≡◌, true, ◌++◌, ◌*◌, ◌/◌, ◌<◌, ◌≤◌, length, drop};
+ghost use Rattle.std.specs.Prelude.{◌≡◌, true, ◌<◌, ◌≤◌, length};
 ghost use Rattle.std.specs.Int.Bits.{bit_xor};
 ghost use Rattle.starts.specs.Starts.{start_i5, start_q5};
 ghost use Rattle.machine.specs.Signals.{from_l5};
-ghost use Rattle.machine.specs.Machine.{advance, chips};
-ghost use Rattle.machine.specs.Ranged.{RangedAs};
 ghost use Rattle.digits.specs.Digits.{row};
 ghost use Rattle.stretches.specs.Stretches.{Within, word_at};
-ghost use Rattle.stepped.specs.Inner.{Of};
+ghost use Rattle.stepped.specs.Inner.{Of, WindowFrom};
 ghost use Rattle.windows_l5.specs.Runs.{Advanced, Tables, Fitting, Run, chip_along};
 
 use digits::Spread;
+use generators::Code;
 use machine::{Channel, Generator};
+use registers::{XA, XB};
+use sequences::Sequence;
 use starts::Prn;
 use stepped::{L5, Runs};
 
@@ -24,7 +25,7 @@ mod tables;
 // ---- where a PRN begins in XB's table
 
 // XB's start, and its advance: the chips before it in the table.
-#[derive(Clone, Copy)]
+#[derive(Clone, Copy, Debug, PartialEq, Eq)]
 pub struct Start {
     start: u32,
     advance: u32,
@@ -33,6 +34,7 @@ pub struct Start {
 
 // Two functions: each takes the start and the advance from tables of its own, and ensures another start.
 impl Start {
+    // Of I5's XB for a PRN.
     pub fn of_i5(prn: Prn) -> Start
         ensures { result.start ≡ start_i5 prn.number }
     {
@@ -42,6 +44,7 @@ impl Start {
         }
     }
 
+    // Of Q5's XB for a PRN.
     pub fn of_q5(prn: Prn) -> Start
         ensures { result.start ≡ start_q5 prn.number }
     {
@@ -65,7 +68,7 @@ struct ByTables<'a> {
 // ---- a run
 
 impl ByTables<'_> {
-    // The 64 chips from n steps on.
+    // The 64 chips from n steps on. P has a function of its own: one for both would take eight arguments for one sum.
     fn word_of(&self, a: Generator, b: Generator, n: usize) -> u64
         requires first_within { Within a 0 n (length self.now.xa) }
         requires second_within { Within b self.now.of.advance n (length self.now.xb) }
@@ -76,71 +79,58 @@ impl ByTables<'_> {
         first ^ second
     }
 
-    // Writes the first chips of a run over a slice, in whole words. P's are written by functions of its own, which take its delay line along.
-    fn write_words(&self, ch: Channel, out: &mut [u8])
-        requires fitting { Fitting self.now.of.start ch }
-        requires run { Run self.now.of.start (length out.old) ch }
-        ensures { out.new ≡ row (chip_along self.now.of.start ch) (length out.old / 64 * 64) ++ drop (length out.old / 64 * 64) out.old }
-    {
-        for block in 0..out.len() / 64 {
-            let i = block * 64;
-            let word = self.word_of(ch.first, ch.second, i);
-            digits::write_whole(word, self.spread, &mut out[i..]);
-        }
-    }
-
-    // Writes the chips of a run over a slice, the last of them in a part of a word.
+    // Writes the chips of a run over a slice, in whole words, and the last of them in a part of a word. P's are written by a function of its own, which takes
+    // its delay line along, and C/A's by one that takes a word by other clauses: a closure for the word would have to state them.
+    #[tactic(auto, using(crate::proofs::Blocks::first_within, crate::proofs::Blocks::second_within))]
     fn write_run(&self, ch: Channel, out: &mut [u8])
         requires fitting { Fitting self.now.of.start ch }
         requires run { Run self.now.of.start (length out.old) ch }
         ensures { out.new ≡ row (chip_along self.now.of.start ch) (length out.old) }
     {
-        let n = out.len();
-        self.write_words(ch, out);
-        let i = n / 64 * 64;
-        let word = self.word_of(ch.first, ch.second, i);
-        digits::write_word(word, (n - i) as u32, self.spread, &mut out[i..]);
+        let words = out.len() / 64;
+        // no `chunks_exact_mut`: its contract tells a proof the length alone of a slice that is written by its parts
+        for word in 0..words {
+            let i = word * 64;
+            self.spread
+                .write(self.word_of(ch.first, ch.second, i), &mut out[i..i + 64]);
+        }
+        let i = words * 64;
+        self.spread
+            .write(self.word_of(ch.first, ch.second, i), &mut out[i..]);
     }
+}
 
-    // The steps before the end of a cycle or of the week, at most `most`.
-    fn steps_before(&self, ch: Channel, most: usize) -> usize
-        requires ranged_as { RangedAs (from_l5 self.now.of.start) ch }
-        requires not_too_long { most ≤ 65536 }
-        ensures { (result ≤ most) × (0 < result → Run self.now.of.start result ch) }
-    {
-        let last_xa = generators::last_xa(ch.first.cycles);
-        let last_xb = generators::last_xb(ch.second.cycles);
+impl Runs for ByTables<'_> {
+    ghost signal = { λ tables prn. from_l5 tables.of.start };
+
+    ghost is_run = { λ tables n ch. Run tables.of.start n ch };
+
+    ghost fits = { λ tables ch. Fitting tables.of.start ch };
+
+    // The steps before the end of a cycle or of the week, if they are not few. P's asks other generators, and the rest is one comparison.
+    fn run_before(&self, ch: Channel, most: usize) -> Option<usize> {
+        let last_xa = XA::last(ch.first.cycles);
+        let last_xb = XB::last(ch.second.cycles);
         let first = stretches::stretch_of(ch.first, last_xa) as usize;
         let second = stretches::stretch_of(ch.second, last_xb) as usize;
         let week = (machine::WEEK_L5 - 1 - ch.place) as usize;
-        first.min(second).min(week.min(most))
+        let n = first.min(second).min(week.min(most));
+        if n < stretches::SHORT_RUN {
+            None
+        } else {
+            Some(n)
+        }
     }
 
-    // Whether each register is the one of its phase.
-    fn fitting(&self, ch: Channel) -> bool
-        requires { RangedAs (from_l5 self.now.of.start) ch }
-        ensures { result ≡ true → Fitting self.now.of.start ch }
-    {
+    // Whether each register is the one of its phase. One for all signals would be handed each table and its stages.
+    #[tactic(auto, using(crate::proofs::AlongL5::room_xa, crate::proofs::AlongL5::room_xb, crate::proofs::Blocks::last_xa, crate::proofs::Blocks::last_xb))]
+    fn fitting(&self, ch: Channel) -> bool {
         let first = stretches::fits(ch.first, &self.xa, 0, 13);
         let second = stretches::fits(ch.second, &self.xb, self.of.advance as usize, 13);
         first & second
     }
-}
 
-// A run is not short, and each register is the one of its phase.
-impl Runs for ByTables<'_> {
-    ghost signal = { λ tables prn. from_l5 tables.of.start };
-
-    ghost is_run = { λ tables n ch. Run tables.of.start n ch × Fitting tables.of.start ch };
-
-    fn run_of(&self, ch: Channel, most: usize) -> Option<usize> {
-        let n = self.steps_before(ch, most);
-        if n < stretches::SHORT_RUN {
-            return None;
-        }
-        if self.fitting(ch) { Some(n) } else { None }
-    }
-
+    #[tactic(auto, using(crate::proofs::Blocks::first_within, crate::proofs::Blocks::second_within))]
     fn go_along(&self, ch: Channel, out: &mut [u8]) -> Channel {
         let n = out.len();
         self.write_run(ch, out);
@@ -168,14 +158,15 @@ impl Runs for ByTables<'_> {
 
 // ---- the window
 
-// Writes the chips of a channel of I5 or Q5 over a slice, and gives the channel after them.
+// Writes the chips of a channel of I5 or Q5 over a slice, and gives the channel after them. `Of` is a clause, for no type of a channel knows its signal; the
+// table of digits is made once, in `windows`, and lent, for it is written anew wherever it is made.
 pub fn write(of: Start, ch: Channel, spread: &Spread, out: &mut [u8]) -> Channel
     requires { Of (λ prn. from_l5 of.start) ch }
-    ensures { (result ≡ advance (length out.old) ch) × (out.new ≡ chips (length out.old) ch) }
+    ensures { WindowFrom ch out.old out.new result }
 {
     let tables = ByTables {
-        xa: sequences::xa(),
-        xb: sequences::xb(),
+        xa: XA::sequence(),
+        xb: XB::sequence(),
         of,
         spread,
     };

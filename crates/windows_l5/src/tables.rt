@@ -1,4 +1,4 @@
-// The advances of XB from all ones: document 003, Table 3-I, PRN 1 to 37.
+// The advances of XB from all ones: IS-GPS-705, Table 3-I, PRN 1 to 37.
 
 // I5.
 pub const I5: [u32; 37] = [

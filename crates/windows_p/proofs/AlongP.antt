@@ -12,7 +12,7 @@ use native.Mathlib.Omega.{arith}
 use lib.Dec.{lit≤, lit<, eqb}
 use lib.ListN.{length}
 use Rattle.registers.specs.Times.{times}
-use Rattle.registers.specs.Register.{shift, taps_x1a, taps_x1b, taps_x2a, taps_x2b}
+use Rattle.registers.specs.Register.{taps_x1a, taps_x1b, taps_x2a, taps_x2b}
 use Rattle.starts.specs.Starts.{start_x1a, start_x1b, start_x2a, start_x2b}
 use Rattle.machine.specs.Signals.{signal_p, x1a, x1b, x2a, x2b}
 use Rattle.machine.specs.Machine.{advance, chips}
@@ -21,12 +21,13 @@ use Rattle.machine.specs.Inner.{line_from}
 use Rattle.machine.specs.declared.Generator.{Generator}
 use Rattle.machine.specs.declared.Channel.{Channel}
 use Rattle.sequences.specs.Sequences.{sequence, word_in}
+use Rattle.sequences.proofs.Chips.{register_read}
 use Rattle.digits.specs.Digits.{row}
 use Rattle.stretches.specs.Stretches.{ahead, ahead_by}
 use Rattle.stretches.proofs.Arrivals.{x1b_runs_on, x2a_runs_on, x2b_runs_on}
 use Rattle.stretches.proofs.LawOfRuns.{goes}
 use Rattle.stretches.proofs.Along.{Along, at, at_is, chips_are}
-use Rattle.stretches.proofs.Tables.{table_length, register_there, after_is, fits_is}
+use Rattle.stretches.proofs.Tables.{table_length, after_is, fits_is}
 use Rattle.stepped.specs.Inner.{Of}
 use Rattle.windows_p.specs.Runs.{Tables, Fitting, Run, chip_x2, line_along, chip_along}
 
@@ -61,25 +62,18 @@ module _ (n : ℕ) (ch : Channel) (run : Run n ch) where
 
 -- ---- registers, read from the tables
 
--- the register of a phase, of twelve stages
-registers_12 : (taps : List ℕ) (start : ℕ) (seq : List ℕ) → seq ≡ sequence (shift 12 taps) 12 65 start → start < 2 ^ 12
-    → (q : ℕ) → q ≤ 4092 → word_in seq (0 + q) / 2 ^ (64 - 12) ≡ times (shift 12 taps) q start
-unfolding times
-registers_12 taps start seq is small q h =
-    ap (λ (l : List ℕ). word_in l (0 + q) / 2 ^ (64 - 12)) is ∙ register_there 12 taps 65 start 0 q (lit< tt) (lit≤ tt) small (omega (arith, h))
-
 module _ (a b c d : List ℕ) (t : Tables a b c d) where
   registers_x1a : (q : ℕ) → q ≤ 4091 → word_in a (0 + q) / 2 ^ (64 - 12) ≡ times x1a.shift q x1a.start
-  registers_x1a q h = registers_12 taps_x1a start_x1a a t.table_x1a (lit< tt) q (omega (arith, h))
+  registers_x1a q h = register_read 12 taps_x1a 65 start_x1a a t.table_x1a (lit≤ tt) (lit< tt) (lit< tt) q (omega (arith, h))
 
   registers_x1b : (q : ℕ) → q ≤ 4092 → word_in b (0 + q) / 2 ^ (64 - 12) ≡ times x1b.shift q x1b.start
-  registers_x1b = registers_12 taps_x1b start_x1b b t.table_x1b (lit< tt)
+  registers_x1b q h = register_read 12 taps_x1b 65 start_x1b b t.table_x1b (lit≤ tt) (lit< tt) (lit< tt) q (omega (arith, h))
 
   registers_x2a : (q : ℕ) → q ≤ 4091 → word_in c (0 + q) / 2 ^ (64 - 12) ≡ times x2a.shift q x2a.start
-  registers_x2a q h = registers_12 taps_x2a start_x2a c t.table_x2a (lit< tt) q (omega (arith, h))
+  registers_x2a q h = register_read 12 taps_x2a 65 start_x2a c t.table_x2a (lit≤ tt) (lit< tt) (lit< tt) q (omega (arith, h))
 
   registers_x2b : (q : ℕ) → q ≤ 4092 → word_in d (0 + q) / 2 ^ (64 - 12) ≡ times x2b.shift q x2b.start
-  registers_x2b = registers_12 taps_x2b start_x2b d t.table_x2b (lit< tt)
+  registers_x2b q h = register_read 12 taps_x2b 65 start_x2b d t.table_x2b (lit≤ tt) (lit< tt) (lit< tt) q (omega (arith, h))
 
   -- so many words as the test of a register needs
   pub rooms : (phase : ℕ) → phase ≤ 4092 → ((0 + phase) / 64 + 1 < length a) × ((0 + phase) / 64 + 1 < length b) × ((0 + phase) / 64 + 1 < length c) × ((0 + phase) / 64 + 1 < length d)

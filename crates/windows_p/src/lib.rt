@@ -2,18 +2,18 @@
 // tables, and single steps between them. A run needs each register to be the one of its phase, which is tested; other channels are stepped.
 #![tactic(auto)]
 
-ghost use Rattle.std.specs.Prelude.{◌≡◌, true, ◌++◌, ◌*◌, ◌/◌, ◌<◌, ◌≤◌, length, drop};
+ghost use Rattle.std.specs.Prelude.{◌≡◌, true, ◌<◌, ◌≤◌, length};
 ghost use Rattle.std.specs.Int.Bits.{bit_xor};
 ghost use Rattle.machine.specs.Signals.{signal_p};
-ghost use Rattle.machine.specs.Machine.{advance, chips};
-ghost use Rattle.machine.specs.Ranged.{RangedAs};
 ghost use Rattle.digits.specs.Digits.{row};
 ghost use Rattle.stretches.specs.Stretches.{Within, word_at};
-ghost use Rattle.stepped.specs.Inner.{Of};
+ghost use Rattle.stepped.specs.Inner.{Of, WindowFrom};
 ghost use Rattle.windows_p.specs.Runs.{Tables, Fitting, Run, line_along, chip_along};
 
 use digits::Spread;
 use machine::{Channel, Generator};
+use registers::{X1A, X1B, X2A, X2B};
+use sequences::Sequence;
 use stepped::{P, Runs};
 
 // The chips of the four generators.
@@ -29,7 +29,7 @@ struct ByTables<'a> {
 
 // ---- a run
 
-// Two generators' next 64 chips from n steps on, added.
+// Two generators' next 64 chips from n steps on, added. L5's two have tables of their own and an advance: one for both would take eight arguments for one sum.
 fn both(a: Generator, ta: &[u64], b: Generator, tb: &[u64], n: usize) -> u64
     requires first_within { Within a 0 n (length ta.now) }
     requires second_within { Within b 0 n (length tb.now) }
@@ -41,89 +41,74 @@ fn both(a: Generator, ta: &[u64], b: Generator, tb: &[u64], n: usize) -> u64
 }
 
 impl ByTables<'_> {
-    // Writes the first chips of a run over a slice, in whole words, and gives the delay line after them. L5 has a function like this and like the next: in P
-    // the delay line goes along from word to word, and L5 has none. `Fitting` and `Run` are clauses, for `stepped::Runs` tells them of each call's channel.
-    fn write_words(&self, ch: Channel, out: &mut [u8]) -> u64
-        requires fitting { Fitting ch }
-        requires run { Run (length out.old) ch }
-        ensures { (result ≡ line_along ch (length out.old / 64 * 64))
-            × (out.new ≡ row (chip_along ch) (length out.old / 64 * 64) ++ drop (length out.old / 64 * 64) out.old) }
-    {
-        let mut line = ch.delay;
-        for block in 0..out.len() / 64 {
-            let i = block * 64;
-            let x1 = both(ch.first, &self.x1a, ch.second, &self.x1b, i);
-            let x2 = both(ch.third, &self.x2a, ch.fourth, &self.x2b, i);
-            let word = x1 ^ delay_lines::delayed(line, x2, ch.prn);
-            digits::write_whole(word, self.spread, &mut out[i..]);
-            line = x2 % machine::LINE_LIMIT;
-        }
-        line
-    }
-
-    // Writes the chips of a run over a slice, the last of them in a part of a word, and gives the delay line after it.
+    // Writes the chips of a run over a slice, in whole words, and the last of them in a part of a word, and gives the delay line after it. L5 has a function
+    // like this: in P the delay line goes along from word to word, and L5 has none. `Fitting` and `Run` are clauses, for `stepped::Runs` tells them of each
+    // call's channel.
+    #[tactic(auto, using(crate::proofs::Blocks::first_within, crate::proofs::Blocks::second_within, crate::proofs::Blocks::third_within, crate::proofs::Blocks::fourth_within))]
     fn write_run(&self, ch: Channel, out: &mut [u8]) -> u64
         requires fitting { Fitting ch }
         requires run { Run (length out.old) ch }
         ensures { (result ≡ line_along ch (length out.old)) × (out.new ≡ row (chip_along ch) (length out.old)) }
     {
-        let n = out.len();
-        let line = self.write_words(ch, out);
-        let i = n / 64 * 64;
-        let k = (n - i) as u32;
+        let words = out.len() / 64;
+        let mut line = ch.delay;
+        // no `chunks_exact_mut`: its contract tells a proof the length alone of a slice that is written by its parts
+        for word in 0..words {
+            let i = word * 64;
+            let x1 = both(ch.first, &self.x1a, ch.second, &self.x1b, i);
+            let x2 = both(ch.third, &self.x2a, ch.fourth, &self.x2b, i);
+            self.spread.write(
+                x1 ^ delay_lines::delayed(line, x2, ch.prn),
+                &mut out[i..i + 64],
+            );
+            line = x2 % machine::LINE_LIMIT;
+        }
+        let i = words * 64;
+        let k = (out.len() - i) as u32;
         if k == 0 {
             return line;
         }
         let x1 = both(ch.first, &self.x1a, ch.second, &self.x1b, i);
         let x2 = both(ch.third, &self.x2a, ch.fourth, &self.x2b, i);
-        let word = x1 ^ delay_lines::delayed(line, x2, ch.prn);
-        digits::write_word(word, k, self.spread, &mut out[i..]);
+        self.spread
+            .write(x1 ^ delay_lines::delayed(line, x2, ch.prn), &mut out[i..]);
         delay_lines::line_after(line, x2, k)
     }
+}
 
-    // Whether each register is the one of its phase.
-    fn fitting(&self, ch: Channel) -> bool
-        requires { RangedAs (signal_p ch.prn) ch }
-        ensures { result ≡ true → Fitting ch }
-    {
+impl Runs for ByTables<'_> {
+    ghost signal = { λ tables. signal_p };
+
+    ghost is_run = { λ tables n ch. Run n ch };
+
+    ghost fits = { λ tables ch. Fitting ch };
+
+    // The steps before the end of a cycle, of a hold or of the week, if they are not few. L5's asks other generators, and the rest is one comparison.
+    fn run_before(&self, ch: Channel, most: usize) -> Option<usize> {
+        let first = stretches::stretch_of(ch.first, machine::LAST_X1A) as usize;
+        let second = stretches::stretch_of(ch.second, machine::LAST_X1B) as usize;
+        let third = stretches::stretch_of(ch.third, machine::LAST_X2A) as usize;
+        let fourth = stretches::stretch_of(ch.fourth, machine::LAST_X2B) as usize;
+        let week = (machine::WEEK_P - 1 - ch.place) as usize;
+        let n = first.min(second).min(third.min(fourth)).min(week.min(most));
+        if n < stretches::SHORT_RUN {
+            None
+        } else {
+            Some(n)
+        }
+    }
+
+    // Whether each register is the one of its phase. One for all signals would be handed each table and its stages.
+    #[tactic(auto, using(crate::proofs::AlongP::rooms))]
+    fn fitting(&self, ch: Channel) -> bool {
         let first = stretches::fits(ch.first, &self.x1a, 0, 12);
         let second = stretches::fits(ch.second, &self.x1b, 0, 12);
         let third = stretches::fits(ch.third, &self.x2a, 0, 12);
         let fourth = stretches::fits(ch.fourth, &self.x2b, 0, 12);
         first & second & third & fourth
     }
-}
 
-// ---- where runs are
-
-// The steps before the end of a cycle, of a hold or of the week, at most `most`.
-fn steps_before(ch: Channel, most: usize) -> usize
-    requires of { Of signal_p ch }
-    requires not_too_long { most ≤ 65536 }
-    ensures { (result ≤ most) × (0 < result → Run result ch) }
-{
-    let first = stretches::stretch_of(ch.first, machine::LAST_X1A) as usize;
-    let second = stretches::stretch_of(ch.second, machine::LAST_X1B) as usize;
-    let third = stretches::stretch_of(ch.third, machine::LAST_X2A) as usize;
-    let fourth = stretches::stretch_of(ch.fourth, machine::LAST_X2B) as usize;
-    let week = (machine::WEEK_P - 1 - ch.place) as usize;
-    first.min(second).min(third.min(fourth)).min(week.min(most))
-}
-
-// A run is not short, and each register is the one of its phase.
-impl Runs for ByTables<'_> {
-    ghost signal = { λ tables. signal_p };
-
-    ghost is_run = { λ tables n ch. Run n ch × Fitting ch };
-
-    fn run_of(&self, ch: Channel, most: usize) -> Option<usize> {
-        let n = steps_before(ch, most);
-        if n < stretches::SHORT_RUN {
-            return None;
-        }
-        if self.fitting(ch) { Some(n) } else { None }
-    }
-
+    #[tactic(auto, using(crate::proofs::Blocks::first_within, crate::proofs::Blocks::second_within, crate::proofs::Blocks::third_within, crate::proofs::Blocks::fourth_within))]
     fn go_along(&self, ch: Channel, out: &mut [u8]) -> Channel {
         let n = out.len();
         let delay = self.write_run(ch, out);
@@ -151,16 +136,17 @@ impl Runs for ByTables<'_> {
 
 // ---- the window
 
-// Writes the chips of a channel of P over a slice, and gives the channel after them.
+// Writes the chips of a channel of P over a slice, and gives the channel after them. `Of` is a clause, for no type of a channel knows its signal; the table
+// of digits is made once, in `windows`, and lent, for it is written anew wherever it is made.
 pub fn write(ch: Channel, spread: &Spread, out: &mut [u8]) -> Channel
     requires { Of signal_p ch }
-    ensures { (result ≡ advance (length out.old) ch) × (out.new ≡ chips (length out.old) ch) }
+    ensures { WindowFrom ch out.old out.new result }
 {
     let tables = ByTables {
-        x1a: sequences::x1a(),
-        x1b: sequences::x1b(),
-        x2a: sequences::x2a(),
-        x2b: sequences::x2b(),
+        x1a: X1A::sequence(),
+        x1b: X1B::sequence(),
+        x2a: X2A::sequence(),
+        x2b: X2B::sequence(),
         spread,
     };
     stepped::write_by_runs(&tables, ch, out)

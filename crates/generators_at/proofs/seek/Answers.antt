@@ -1,6 +1,6 @@
 -- `generators_at::seek` meets its contract: where it stands by division, its register by leaps.
 -- Assumes nothing.
-use Rattle.std.proofs.Common.{rules, ◌≡◌, ◌∙◌, refl}
+use Rattle.std.proofs.Common.{◌∙◌, refl}
 use Rattle.generators_at.proofs.Phases.{fits, reaches, leap_asks, brought_is}
 use Rattle.generators_at.proofs.seek.Goals as goal
 

@@ -7,9 +7,9 @@ pub leap_to-requires : goal.leap_to-requires
 leap_to-requires g c =
     let t = c.table.ensures in
     let w = c.requires in
-    record { long = t.long; few = t.few; phase_in = rw t.rows_are w.phase_in; count_in = w.count_in }
+    record { few = t.few; phase_in = rw t.rows_are w.phase_in; count_in = w.count_in }
 
 pub returns : goal.returns
 returns g c =
     let t = c.table.ensures in
-    by_table (rw t.width_is g.met.R.Leaping.linear) _ _ t.right (rw (t.width_is, t.rows_are) c.requires) c.leap_to.ensures
+    by_table (rw t.width_is g.met.R.Leaping.linear) _ _ t.right (rw (t.rows_are, t.width_is) c.requires) c.leap_to.ensures

@@ -9,7 +9,7 @@ use Rattle.seeks.proofs.fill_line.Goals as goal
 
 pub loop-at-init : goal.loop-at-init
 loop-at-init c =
-    filled_first c.args.from c.args.third c.args.fourth c.requires.third_value c.requires.fourth_value
+    filled_first c.args.from c.args.third c.args.fourth c.requires.third_there c.requires.fourth_there
 
 pub next_line-line-requires : goal.next_line-line-requires
 next_line-line-requires c =
@@ -19,21 +19,21 @@ pub step-x2a-requires : goal.step-x2a-requires
 step-x2a-requires c =
     let l = c.loop-at in
     let a = c.args in
-    third_in a.from l.at l.x2a l.x2b l.line (omega (arith, c.requires.place_lt_week_p)) l.invariant
+    third_in a.from l.at l.x2a l.x2b l.line (omega (arith, c.requires.place_in_week)) l.invariant
 
 pub step-x2b-requires : goal.step-x2b-requires
 step-x2b-requires c =
     let l = c.loop-at in
     let a = c.args in
-    fourth_in a.from l.at l.x2a l.x2b l.line (omega (arith, c.requires.place_lt_week_p)) l.invariant
+    fourth_in a.from l.at l.x2a l.x2b l.line (omega (arith, c.requires.place_in_week)) l.invariant
 
 pub loop-at-preserved : goal.loop-at-preserved
 loop-at-preserved c =
     let l = c.loop-at in
     let a = c.args in
-    filled_next a.from l.at l.x2a l.x2b l.line (omega arith) (omega (arith, c.requires.place_lt_week_p)) l.invariant
+    filled_next a.from l.at l.x2a l.x2b l.line (omega arith) (omega (arith, c.requires.place_in_week)) l.invariant
     c.step-x2a.result c.step-x2b.result c.next_line-line.result
-    (rw c.start_x2a.ensures at c.step-x2a.ensures) (rw c.start_x2b.ensures at c.step-x2b.ensures) c.next_line-line.ensures
+    (rw c.start.ensures at c.step-x2a.ensures) (rw c.start-in-loop-at.ensures at c.step-x2b.ensures) c.next_line-line.ensures
 
 pub returns : goal.returns
 returns c =

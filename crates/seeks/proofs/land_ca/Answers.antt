@@ -5,22 +5,23 @@ use native.Mathlib.Omega.{arith}
 use lib.Dec.{lit<, lit≤}
 use Rattle.machine.specs.Signals.{week_ca, g1, g2}
 use Rattle.week.specs.Week.{course_g}
-use Rattle.generators_at.specs.declared.Brought.{Brought}
+use Rattle.leaps.specs.declared.Counted.{Counted}
+use Rattle.machine.specs.declared.Generator.{Generator}
 use Rattle.seeks.proofs.Landing.{counts_few, plain_landed_lem}
 use Rattle.seeks.proofs.land_ca.Goals as goal
 
 pub seek-g2-requires : goal.seek-g2-requires
 seek-g2-requires c =
-    let few = counts_few g1 course_g c.args.place 0 10 c.seek-g1.result (rw c.start_g1.ensures at c.seek-g1.ensures) (lit< tt) (lit≤ tt) in
-    record { start_in = rw c.start_g2.ensures (lit< tt); asked = record { place_in = c.requires; count_in = omega (arith, few) } }
+    let few = counts_few g1 course_g c.args.place 0 10 c.seek-g1.result (rw c.start.ensures at c.seek-g1.ensures) (lit< tt) (lit≤ tt) in
+    record { start_in = rw c.start-2.ensures (lit< tt); asked = record { place_in = c.requires; count_in = omega (arith, few) } }
 
 pub returns : goal.returns
 returns c =
     let a = c.args in
-    let one = rw c.start_g1.ensures at c.seek-g1.ensures in
-    let two = rw c.start_g2.ensures at c.seek-g2.ensures in
+    let one = rw c.start.ensures at c.seek-g1.ensures in
+    let two = rw c.start-2.ensures at c.seek-g2.ensures in
     c.plain_at.ensures
-    ∙ plain_landed_lem week_ca g1 g2 course_g course_g _ a.signal a.prn a.place c.requires _ _ _
-    (ap (λ (x : Brought). x.generator) one)
-    (ap (λ (x : Brought). x.generator) two)
-    (omega (arith, ap (λ (x : Brought). x.count) one, ap (λ (x : Brought). x.count) two))
+    ∙ plain_landed_lem week_ca g1 g2 course_g course_g _ 1 a.prn.number a.place c.requires _ _ _
+    (ap (λ (x : Counted Generator). x.value) one)
+    (ap (λ (x : Counted Generator). x.value) two)
+    (omega (arith, ap (λ (x : Counted Generator). x.count) one, ap (λ (x : Counted Generator). x.count) two))

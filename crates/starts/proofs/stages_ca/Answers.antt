@@ -1,28 +1,17 @@
--- `starts::stages_ca` meets its contract.
+-- `starts::stages_ca` meets its contract: the code's pairs of stages are the list's, number for number.
 -- Assumes nothing.
-use Prim.Native.Nat.{ℕ, ◌+◌, ◌-◌, ◌*◌, ◌/◌, ◌%◌, ◌≤◌}
-use mathlib.Core.Path.{◌≡◌, ap, ◌∙◌}
-use native.Mathlib.Omega.{arith}
+use Rattle.std.proofs.Common.{arith, ◌+◌, ◌-◌, ◌*◌, ◌<◌, slice_index_or}
 use lib.ListN.{get_or}
+use Rattle.registers.proofs.Below.{equal_at}
 use Rattle.starts.specs.Starts.{stages_of, stages_ca}
-use Rattle.starts.specs.Inner.{pair_at}
-use Rattle.starts.specs.declared.Stages.{Stages}
-use Rattle.starts.proofs.Ranges.{second_in}
+use Rattle.starts.specs.declared.tables.TheConstants.{STAGES}
 use Rattle.starts.proofs.stages_ca.Goals as goal
 
--- two digits are told apart by their sum
-
-unpacked : (pair a b : ℕ) → b ≤ 10 → pair ≡ a * 16 + b → ◌≡◌ {A = Stages} (record { first = pair / 16; second = pair % 16 }) (record { first = a; second = b })
-unpacked pair a b h e =
-    let one : pair / 16 ≡ a = omega arith in
-    let two : pair % 16 ≡ b = omega arith in
-    λ j. record { first = one j; second = two j }
-
 pub returns : goal.returns
-unfolding stages_of pair_at
+unfolding stages_of stages_ca
 returns c =
-    let prn = c.args.prn.number in
-    let n = prn - 1 in
-    let place : n / 8 * 8 + n % 8 ≡ n = omega arith in
-    let pair = c.pairs.ensures.pair (n % 8) (omega arith) ∙ ap pair_at place in
-    unpacked _ (get_or stages_ca (n * 2) 0) (get_or stages_ca (n * 2 + 1) 0) (second_in prn c.args.prn.listed).last pair
+    let row = c.args.prn.number - 1 in
+    let listed : row < 37 = omega (arith, c.args.prn.listed.first, c.args.prn.listed.last) in
+    let one = equal_at 37 (λ k. (slice_index_or STAGES k (0, 0)).0) (λ k. get_or stages_ca (k * 2) 0) tt row listed in
+    let two = equal_at 37 (λ k. (slice_index_or STAGES k (0, 0)).1) (λ k. get_or stages_ca (k * 2 + 1) 0) tt row listed in
+    λ j. record { first = one j; second = two j }

@@ -7,7 +7,6 @@ use Rattle.steps.proofs.step_ca.Goals as goal
 
 pub returns : goal.returns
 returns c =
-    let start = c in
     let ch = c.args.ch in
     c.plain_step.ensures
-    ∙ plain_is (signal_ca ch.prn).week g1 g2 (signal_ca ch.prn).chip _ _ ch c.requires (rw c.start_g1.ensures at c.step-first.ensures) (λ e. rw c.start_g2.ensures at c.step-second.ensures)
+    ∙ plain_is (signal_ca ch.prn).week g1 g2 (signal_ca ch.prn).chip _ _ ch c.requires (rw c.start.ensures at c.step-first.ensures) (λ e. rw c.start-2.ensures at c.step-second.ensures)

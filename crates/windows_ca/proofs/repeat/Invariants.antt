@@ -5,4 +5,4 @@ use Rattle.windows_ca.proofs.repeat.Given as goal
 
 abbrev pub invariant-loop-i : goal.invariant-loop-i
 invariant-loop-i l =
-    Copied l.from l.to l.initial.out l.out l.i
+    Copied l.fn.out l.out l.i

@@ -7,8 +7,8 @@ use Rattle.stepped.proofs.runs.write_by_runs.Goals as goal
 pub loop-written-init : goal.loop-written-init
 loop-written-init g c = begun _ _ _ _ c.requires.of (omega arith)
 
-pub loop-written-preserved-in-Some : goal.loop-written-preserved-in-Some
-loop-written-preserved-in-Some g c =
+pub loop-written-preserved-then-fitting : goal.loop-written-preserved-then-fitting
+loop-written-preserved-then-fitting g c =
     part_more _ _ _ _ _ _ _ _ _ _ c.loop-written.invariant (omega (arith, c.in-Some.ensures.1)) c.go_along-here.ensures
 
 pub loop-written-preserved : goal.loop-written-preserved
