@@ -34,7 +34,8 @@ fn append_chips<const N: usize>(chips: &[u8], out: &mut ArrayVec<u8, N>)
     }
 }
 
-// The next six are of one shape: a type of words would take a text, a room and an arm for each of four kinds, and these take their calls alone.
+// The next six differ in the words behind `ok`. One function would be handed them as a list of an enum of four kinds (a channel, a number, one with its sign,
+// chips), whose text and room its clauses would state for each kind: longer than the six.
 
 // `ok CH`: a channel of any field values.
 pub fn ok_channel<const N: usize>(ch: Channel, out: &mut ArrayVec<u8, N>)
@@ -126,7 +127,7 @@ pub fn hand_back(last: &mut Option<Channel>, ch: Channel)
 
 // ---- what is no call
 
-// A line that is no command.
+// A line that is no command, or asks for too long a buffer.
 pub fn error<const N: usize>(out: &mut ArrayVec<u8, N>)
     requires { array_vec_len out.old + ROOM ≤ N }
     ensures { out.new.items ≡ out.old.items ++ error_line }

@@ -6,6 +6,7 @@ ghost use Rattle.std.specs.Prelude.{◌≡◌};
 ghost use Rattle.call_seek.specs.Seek.{of_sought, seek_reply};
 
 use machine::Channel;
+use ranges::InRange;
 use refusals::Refusal;
 use replies::Refused;
 pub use seeks::Sought;
@@ -15,7 +16,7 @@ pub use seeks::Sought;
 pub fn seek(ch: Channel, place: u64) -> Result<Sought, Refused>
     ensures { of_sought result ≡ seek_reply ch place }
 {
-    let ch = ranges::judge(ch)?;
+    let ch = InRange::try_from(ch)?;
     let signal = ch.signal();
     if signal.week() <= place {
         return Err(Refused {

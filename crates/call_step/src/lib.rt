@@ -5,6 +5,7 @@ ghost use Rattle.std.specs.Prelude.{◌≡◌};
 ghost use Rattle.call_step.specs.Step.{of_stepped, step_reply};
 
 use machine::Channel;
+use ranges::InRange;
 use replies::Refused;
 
 // The chip at the place where the channel came, 0 or 1, and the channel one step on.
@@ -19,7 +20,7 @@ pub struct Stepped {
 pub fn step(ch: Channel) -> Result<Stepped, Refused>
     ensures { of_stepped result ≡ step_reply ch }
 {
-    let ch = ranges::judge(ch)?;
+    let ch = InRange::try_from(ch)?;
     let chip = steps::chip_of(ch);
     let channel = steps::step_of(ch).channel;
     Ok(Stepped { chip, channel })

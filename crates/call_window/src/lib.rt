@@ -6,6 +6,7 @@ ghost use Rattle.std.specs.Prelude.{◌≡◌};
 ghost use Rattle.call_window.specs.Window.{of_windowed, window_reply};
 
 use machine::Channel;
+use ranges::InRange;
 use refusals::Refusal;
 use replies::Refused;
 
@@ -15,7 +16,7 @@ use replies::Refused;
 pub fn window(ch: Channel, count: u64, buffer: &mut [u8], at: u64) -> Result<Channel, Refused>
     ensures { of_windowed count at buffer.new result ≡ window_reply ch count buffer.old at }
 {
-    let ch = ranges::judge(ch)?.channel;
+    let ch = InRange::try_from(ch)?.channel;
     if windows::MOST_CHIPS < count {
         return Err(Refused {
             refusal: Refusal::Count,

@@ -17,8 +17,8 @@ use arrayvec::ArrayVec;
 use engine::Refused;
 use machine::Channel;
 
-// The calls are of one shape: each names its call and its line, which one for all would be handed. What `.` stands for and the text are two loans of different
-// owners, which a struct of both would borrow for each call.
+// The calls are of one shape: each names its call and its line, which one for all would be handed. Each asks for `ROOM`, as `answer_lines` says. What `.` stands
+// for and the text are two loans of different owners, which a struct of both would borrow for each call.
 
 // Opens a channel, and `.` stands for it from then on: `ok CH`, or the refusal of a signal or a PRN. Any two numbers.
 pub fn open<const N: usize>(
@@ -63,9 +63,8 @@ pub fn seek<const N: usize>(
 {
     match engine::seek(ch, place) {
         Ok(sought) => {
-            let there = sought.channel;
-            answer_lines::hand_back(last, there);
-            answer_lines::ok_number_channel(u64::from(sought.leaps), there, out);
+            answer_lines::hand_back(last, sought.channel);
+            answer_lines::ok_number_channel(u64::from(sought.leaps), sought.channel, out);
         }
         Err(refused) => refuse(refused, last, out),
     }
@@ -79,14 +78,14 @@ pub fn step<const N: usize>(ch: Channel, last: &mut Option<Channel>, out: &mut A
 {
     match engine::step(ch) {
         Ok(stepped) => {
-            let next = stepped.channel;
-            answer_lines::hand_back(last, next);
-            answer_lines::ok_number_channel(u64::from(stepped.chip), next, out);
+            answer_lines::hand_back(last, stepped.channel);
+            answer_lines::ok_number_channel(u64::from(stepped.chip), stepped.channel, out);
         }
         Err(refused) => refuse(refused, last, out),
     }
 }
 
+// Count, buffer and `at` are the call's own arguments.
 fn window_on<const N: usize>(
     ch: Channel,
     count: u64,
@@ -109,7 +108,8 @@ fn window_on<const N: usize>(
     }
 }
 
-// A window on a buffer of so many bytes, each 0. Chips has one like it: one for both would take what is done with the buffer as a closure. Inlined, it would have every byte of a session pay for its stack.
+// A window on a buffer of so many bytes, each 0. Chips has one like it: one for both would take a closure, and state what that appends for any buffer.
+// Inlined, it would have every byte of a session pay for its stack.
 #[inline(never)]
 pub fn window<const N: usize>(
     ch: Channel,

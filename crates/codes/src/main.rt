@@ -11,7 +11,7 @@ use line_programs::{CHUNK, Dialog, Failed};
 use std::io::{Read, Write};
 use streams::{Replies, Stream};
 
-// Reads and answers all of the input.
+// Reads and answers all of the input. The console has one like it: each ensures a definition of its own, and what is alike is in `line_programs`.
 fn answer_all<R: Read, W: Write>(input: &mut R, output: &mut W) -> Result<(), Failed>
     ensures { OnOk result (IfSome (R.remaining input.old) (λ bytes. Appends (W.contents output.old) (W.contents output.new) (answers bytes))) }
 {
@@ -21,7 +21,8 @@ fn answer_all<R: Read, W: Write>(input: &mut R, output: &mut W) -> Result<(), Fa
     line_programs::answer_all(&mut stream, &mut out, input, output)
 }
 
-// Who gives arguments, --help among them, is told what it does, and nothing is read. Where standard error can't be written either, nobody is told.
+// Apart from the console's, which greets who types the lines. Who gives arguments, --help among them, is told what it does, and nothing is read. Where standard
+// error can't be written either, nobody is told.
 fn main(rt: HostRuntime) {
     if line_programs::has_arguments(&rt) {
         let _ = eprintln!(rt;

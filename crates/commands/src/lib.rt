@@ -3,19 +3,19 @@
 
 ghost use Rattle.std.specs.Prelude.{◌≡◌, true, false, length, drop, MatchOption};
 ghost use Rattle.numbers.specs.Numbers.{of_read};
-ghost use Rattle.commands.specs.Commands.{begins, two_arguments, three_arguments, read_named, read_open, read_seek, read_step, read_window, read_chips, read_reading, read_place_of, read_gap, command_of};
+ghost use Rattle.commands.specs.Commands.{begins, two_arguments, three_arguments, read_named, read_seek, read_step, read_window, read_chips, command_of};
 
 use machine::Channel;
 
-// A call with its arguments, in the order of the engine's.
+// A call with its arguments, in the call's order, or help.
 #[derive(Clone, Copy, Debug, PartialEq, Eq)]
 pub enum Command {
     Open(u64, u64),
     Seek(Channel, u64),
     Step(Channel),
-    // The third number is the buffer's length.
+    // The third argument is the buffer's length.
     Window(Channel, u64, u64, u64),
-    // The fourth number is the buffer's length.
+    // The fourth argument is the buffer's length.
     Chips(u64, u64, u64, u64),
     Reading(u64, u64),
     PlaceOf(u64, u64, u64),
@@ -59,15 +59,6 @@ fn three_arguments(text: &[u8]) -> Option<(u64, u64, u64)>
     Some((first, second, third))
 }
 
-// A reader for each command. Two of one shape differ in the command that they name, and one for both would be handed a closure as long as each body.
-#[tactic(auto, unfolding(crate::specs::Commands::read_open))]
-fn read_open(text: &[u8]) -> Option<Command>
-    ensures { result ≡ read_open text.now }
-{
-    let (signal, prn) = two_arguments(text)?;
-    Some(Command::Open(signal, prn))
-}
-
 #[tactic(auto, unfolding(crate::specs::Commands::read_seek))]
 fn read_seek(text: &[u8], last: Option<Channel>) -> Option<Command>
     ensures { result ≡ read_seek last text.now }
@@ -103,39 +94,17 @@ fn read_chips(text: &[u8]) -> Option<Command>
     Some(Command::Chips(signal, prn, place, bytes))
 }
 
-#[tactic(auto, unfolding(crate::specs::Commands::read_reading))]
-fn read_reading(text: &[u8]) -> Option<Command>
-    ensures { result ≡ read_reading text.now }
-{
-    let (signal, place) = two_arguments(text)?;
-    Some(Command::Reading(signal, place))
-}
-
-#[tactic(auto, unfolding(crate::specs::Commands::read_place_of))]
-fn read_place_of(text: &[u8]) -> Option<Command>
-    ensures { result ≡ read_place_of text.now }
-{
-    let (signal, epoch, chip) = three_arguments(text)?;
-    Some(Command::PlaceOf(signal, epoch, chip))
-}
-
-#[tactic(auto, unfolding(crate::specs::Commands::read_gap))]
-fn read_gap(text: &[u8]) -> Option<Command>
-    ensures { result ≡ read_gap text.now }
-{
-    let (signal, a, b) = three_arguments(text)?;
-    Some(Command::Gap(signal, a, b))
-}
-
 // ---- a line
 
-// The command in a line, if it is one. `last` is the channel that `.` stands for.
-#[tactic(auto, unfolding(crate::specs::Commands::command_of))]
+// The command in a line, if it is one. `last` is the channel that `.` stands for. Test by test, for behind each word other arguments are read: a table of words
+// would have functions of two types beside them.
+#[tactic(auto, unfolding(crate::specs::Commands::command_of, crate::specs::Commands::read_open, crate::specs::Commands::read_reading, crate::specs::Commands::read_place_of, crate::specs::Commands::read_gap))]
 pub fn command_in(line: &[u8], last: Option<Channel>) -> Option<Command>
     ensures { result ≡ command_of last line.now }
 {
     if let Some(rest) = behind(line, b"open ") {
-        return read_open(rest);
+        let (signal, prn) = two_arguments(rest)?;
+        return Some(Command::Open(signal, prn));
     }
     if let Some(rest) = behind(line, b"seek ") {
         return read_seek(rest, last);
@@ -150,13 +119,16 @@ pub fn command_in(line: &[u8], last: Option<Channel>) -> Option<Command>
         return read_chips(rest);
     }
     if let Some(rest) = behind(line, b"reading ") {
-        return read_reading(rest);
+        let (signal, place) = two_arguments(rest)?;
+        return Some(Command::Reading(signal, place));
     }
     if let Some(rest) = behind(line, b"placeof ") {
-        return read_place_of(rest);
+        let (signal, epoch, chip) = three_arguments(rest)?;
+        return Some(Command::PlaceOf(signal, epoch, chip));
     }
     if let Some(rest) = behind(line, b"gap ") {
-        return read_gap(rest);
+        let (signal, a, b) = three_arguments(rest)?;
+        return Some(Command::Gap(signal, a, b));
     }
     behind(line, b"help\n")?;
     Some(Command::Help)

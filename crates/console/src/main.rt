@@ -38,7 +38,7 @@ error       no such command: a word or a number is wrong, missing or too many
 For example: open 2 1, then seek . 15344999, window . 10 10 0, step .
 ";
 
-// Reads and answers all of the input.
+// Reads and answers all of the input. Apart from that of `codes`: each ensures a definition of its own.
 #[tactic(auto, using(sessions::proofs::EverySession::every_input))]
 fn answer_all<R: Read, W: Write>(help: &[u8], input: &mut R, output: &mut W) -> Result<(), Failed>
     requires { length help.now ≤ 66048 }

@@ -1,4 +1,4 @@
-// P's delay line by words: X2 goes into P in the PRN's delay later, and the old line's bits before it.
+// P's delay line by words: a chip of X2 goes into P as many chips later as the PRN's number, and until then the line's old bits do.
 #![tactic(auto)]
 
 ghost use Rattle.std.specs.Prelude.{◌≡◌, ◌+◌, ◌-◌, ◌*◌, ◌/◌, ◌%◌, ◌<◌, ◌≤◌, ◌^◌};

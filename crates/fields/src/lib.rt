@@ -46,7 +46,7 @@ pub fn digit_value(b: u8) -> u64
     u64::from(b - b'0')
 }
 
-// The number that 1 to 13 digits stand for.
+// The number that 1 to 13 digits stand for. By hand and not by `parse`, which takes a `+` before the digits: both tests would stand here all the same.
 pub fn number(s: &[u8]) -> Option<u64>
     ensures value { MatchOption result (is_number s.now ≡ false) (λ n. (is_number s.now ≡ true) × (n ≡ value s.now)) }
     ensures short { OnSome result (length s.now ≤ 13) }

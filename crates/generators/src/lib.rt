@@ -1,10 +1,10 @@
-// One step of each generator, given that generator alone: ten types of one trait, and a step written once. One that is never held has no test of its
-// mode. A start is handed in, since it may depend on the PRN, so that no table is read here.
+// One step of each generator, given that generator, its start and whether the week ends: ten types of one trait, and a step written once. One that is never
+// held has no test of its mode. A start is handed in, since it may depend on the PRN, so that no table is read here.
 #![tactic(auto)]
 
 ghost use Rattle.std.specs.Prelude.{◌≡◌, ◌+◌, ◌<◌, ◌≤◌, ◌^◌, MatchOption, refl};
 ghost use Rattle.machine.specs.declared.Mode.TheVariants.{Running};
-ghost use Rattle.machine.specs.Generators.{Kind, fresh, restarted, moved, held_with, step_in, step_generator, held_at};
+ghost use Rattle.machine.specs.Generators.{Kind, up_to, fresh, restarted, moved, held_with, step_in, step_generator, held_at};
 ghost use Rattle.machine.specs.Signals.{g1, g2, x1a, x1b, x2a, x2b, cm, cl, xa, xb};
 ghost use Rattle.machine.specs.Ranged.{RangedKind};
 ghost use Rattle.generators.specs.Codes.{Stands, arrival_of, NeverHeld, HeldBy};
@@ -25,6 +25,14 @@ pub fn fresh_generator(start: u32, cycles: u32) -> Generator
         cycles,
         mode: Mode::Running,
     }
+}
+
+// A count one up, which returns to 0 from its highest value.
+pub fn up_to(highest: u32, n: u32) -> u32
+    requires { n ≤ highest }
+    ensures { result ≡ up_to highest n }
+{
+    if n == highest { 0 } else { n + 1 }
 }
 
 // One chip on in its cycle.
@@ -64,11 +72,7 @@ impl Cycle {
         requires { g.cycles ≤ self.highest }
         ensures { result ≡ restarted self.start self.highest g }
     {
-        if g.cycles == self.highest {
-            fresh_generator(self.start, 0)
-        } else {
-            fresh_generator(self.start, g.cycles + 1)
-        }
+        fresh_generator(self.start, up_to(self.highest, g.cycles))
     }
 
     // The step of a generator that runs, given its register after a shift and its mode on arrival at the next phase.
@@ -142,8 +146,7 @@ impl Hold {
 
 // ---- a generator's constants
 
-// But for its start, which the PRN may decide. `highest` and `hold` are functions with a clause: an associated constant takes the constant, a ghost of it
-// and a law.
+// But for its start, which the PRN may decide. `highest` and `hold` are functions with a clause: an associated constant would take a law in each `impl`.
 pub trait Code {
     // Its register.
     type Stages: Leaping;

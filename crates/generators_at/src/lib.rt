@@ -9,7 +9,7 @@ use leaps::Counted;
 use machine::{Generator, Mode};
 use week::{Course, Coursed, Standing};
 
-// ---- where a generator stands
+// ---- where a generator stands. A course's facts are clauses: it is reckoned from any code's numbers, and the law `fits` of `Coursed` tells them of each.
 
 // n chips after its start, in a mode.
 fn on_cycle(cycle: u64, n: u64, mode: Mode) -> Standing
@@ -71,7 +71,8 @@ fn placed(at: Standing, register: Counted<u32>) -> Counted<Generator>
     }
 }
 
-// A generator at a place of its week, brought there by leaps from its start, which may depend on the PRN. The count goes on from the leaps made before.
+// A generator at a place of its week, brought there by leaps from its start, which may depend on the PRN. The count goes on from the leaps made before. That a
+// start is one of the register's is a clause here and in `seeks`: it comes as a number, from a constant or a table.
 pub fn seek<C: Coursed>(start: u32, place: u64, count: u32) -> Counted<Generator>
     requires start_in { start < 2 ^ C.kind.width }
     requires asked { Asked C.course.week place count }

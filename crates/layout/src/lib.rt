@@ -1,11 +1,14 @@
-// The layout of the tables and of the known places: what is seen of a channel, and of which PRNs or at which places a table has its rows. No call of the engine.
+// The layout of the tables and of the known places: what is seen of a channel, and of which PRNs or at which places a table has its rows, unless it has one
+// for each PRN from 1 to 37. No call of the engine.
 #![tactic(auto)]
 
 ghost use Rattle.std.specs.Prelude.{◌≡◌, ◌+◌, ◌*◌, ◌%◌, ◌≤◌, Some};
 ghost use Rattle.layout.specs.Coder.{name_of};
 
-use machine::WEEK_P;
+use arrayvec::ArrayString;
+use machine::{LAST_CYCLE_X1A, WEEK_P};
 use std::fmt;
+use std::fmt::Write;
 
 // ---- what is seen of a channel
 
@@ -52,16 +55,13 @@ pub enum Field {
 
 // ---- rows
 
-// Where X1A's last cycle of the week begins.
-const LAST_CYCLE: u64 = 6_187_103_995_908;
-
-// Table 3-VI: the places of its rows, which are X1A's chips 1, 3,023, 3,127, 3,749 and 4,092 of that cycle.
+// Table 3-VI: the places of its rows, which are X1A's chips 1, 3,023, 3,127, 3,749 and 4,092 of its last cycle of the week.
 pub const RESETS: [u64; 5] = [
-    LAST_CYCLE,
-    LAST_CYCLE + 3_022,
-    LAST_CYCLE + 3_126,
-    LAST_CYCLE + 3_748,
-    LAST_CYCLE + 4_091,
+    LAST_CYCLE_X1A,
+    LAST_CYCLE_X1A + 3_022,
+    LAST_CYCLE_X1A + 3_126,
+    LAST_CYCLE_X1A + 3_748,
+    LAST_CYCLE_X1A + 4_091,
 ];
 
 // Table 3-VII: the places of the last two chips of each generator's first cycle, and where its next cycle begins.
@@ -90,13 +90,11 @@ pub struct Selected {
     ghost within_a_week: { days ≤ 6 },
 }
 
-impl Selected {
-    // By its number, 1 to 210 in the tables: PRN 38 has the code of PRN 1 a day on. Any number is taken; 0 gives 0.
-    pub fn of(prn: u8) -> Selected
-        ensures whole_days { result.prn + 37 * result.days ≡ prn }
-        ensures one_of_37 { result.prn ≤ 37 }
-        ensures from_1 { 1 ≤ prn → 1 ≤ result.prn }
-    {
+// By its number, 1 to 210 in the tables: PRN 38 has the code of PRN 1 a day on. Any number is taken; 0 gives 0.
+impl From<u8> for Selected {
+    ghost from_gives = { λ prn s. (s.prn + 37 * s.days ≡ prn) × (s.prn ≤ 37) × (1 ≤ prn → 1 ≤ s.prn) };
+
+    fn from(prn: u8) -> Selected {
         let number = u64::from(prn);
         let days = number.saturating_sub(1) / 37;
         Selected {
@@ -104,7 +102,9 @@ impl Selected {
             days,
         }
     }
+}
 
+impl Selected {
     // The place of that P-code where its own week begins.
     pub fn first(self) -> u64
         ensures { result ≡ self.days * 883872000000 }
@@ -117,5 +117,20 @@ impl Selected {
         ensures { result ≡ (self.days * 883872000000 + 6187103998976) % 6187104000000 }
     {
         (self.first() + (WEEK_P - 1_024)) % WEEK_P
+    }
+}
+
+// Its name: P37(t+24) is the P-code of PRN 37, 24 hours on. No `ghost output`: of the tables' text contracts
+// tell the generators' names alone, and the gate compares all of it.
+impl fmt::Display for Selected {
+    fn fmt<W: fmt::Write>(&self, f: &mut fmt::Formatter<W>) -> fmt::Result {
+        // A number of up to 20 digits, one of up to 3, and five signs.
+        let mut name = ArrayString::<28>::new();
+        write!(name, "P{}(t", self.prn)?;
+        if 0 < self.days {
+            write!(name, "+{}", self.days * 24)?;
+        }
+        write!(name, ")")?;
+        f.pad(name.as_str())
     }
 }

@@ -57,7 +57,7 @@ pub trait Talk<const KEPT: usize> {
 
     ghost last_room: { ℕ };
 
-    // The bytes of room that any answer fits in. An associated constant would take the constant, a ghost of it and a law; this takes a clause.
+    // The bytes of room that any answer fits in. A function, for no constant can be checked yet in an `impl` for a type with a lifetime, as the console has.
     fn room(&self) -> usize
         ensures { result ≡ room };
 
@@ -104,7 +104,8 @@ impl<A: Talk<KEPT>, const KEPT: usize> Dialog<A, KEPT> {
         }
     }
 
-    // One byte of input: what it says, behind what stands there.
+    // One byte of input: what it says, behind what stands there. That the answerer stays is a clause here and below: `&mut self` lends it too. So is the room, as
+    // `texts` says.
     fn turn<const N: usize>(&mut self, b: u8, out: &mut ArrayVec<u8, N>)
     where
         A: Answers<KEPT, N>,

@@ -48,6 +48,9 @@ pub const WEEK_L2: u64 = 309_355_200_000;
 
 pub const WEEK_L5: u64 = 6_187_104_000_000;
 
+// The place where X1A's last cycle of the week begins.
+pub const LAST_CYCLE_X1A: u64 = 6_187_103_995_908;
+
 // The week's last epoch of 1.5 seconds.
 pub const LAST_EPOCH: u32 = 403_199;
 

@@ -1,4 +1,4 @@
-// Numbers as words of text: written, and read back. Behind a word stands a mark.
+// Numbers as words of text: written, and read back. Behind a word stands a mark. Room is asked for, and text appended, as `texts` says.
 #![tactic(auto)]
 
 ghost use Rattle.std.specs.Prelude.{◌≡◌, ◌≤◌, ◌+◌, ◌++◌, IfSome};
@@ -34,7 +34,7 @@ fn with_digit(n: u64, byte: u8, most: u64) -> Option<u64>
     if longer <= most { Some(longer) } else { None }
 }
 
-// The digits behind those of `first`, up to the mark.
+// The digits behind those of `first`, up to the mark. Apart from `number` of `fields`, which is handed a whole field: here the text goes on behind the number.
 #[tactic(auto, using(crate::proofs::Bytes::on_mark, crate::proofs::Bytes::on_more))]
 fn read_digits(text: &[u8], first: u64, most: u64, mark: u8) -> Option<(u64, &[u8])>
     requires { first ≤ most }
@@ -66,7 +66,7 @@ pub fn read_number(text: &[u8], most: u64, mark: u8) -> Option<(u64, &[u8])>
     }
 }
 
-// What stands behind a number's leading zeros, of which up to 19 are passed over.
+// What stands behind a number's leading zeros, of which up to 19 are passed over. Apart from `without_zeros` of `fields`, as above.
 #[tactic(auto, using(crate::proofs::Bytes::none_left, crate::proofs::Bytes::too_short, crate::proofs::Bytes::no_zero, crate::proofs::Bytes::no_digit, crate::proofs::Bytes::one_passed))]
 fn past_zeros(text: &[u8]) -> &[u8]
     ensures { result.now ≡ unpadded 19 text.now }

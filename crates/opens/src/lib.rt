@@ -34,15 +34,15 @@ pub fn open(signal: Signal, prn: Prn) -> Channel
     ensures { result ≡ opened (number_of signal) prn.number }
 {
     match signal {
-        Signal::Ca => at_zero(signal, prn, 0, [G1::start(), G2::start(), 0, 0]),
+        Signal::Ca => at_zero(signal, prn, 0, [G1::START, G2::START, 0, 0]),
         Signal::P => {
             let line = machine::LINE_LIMIT - 1;
-            let starts = [X1A::start(), X1B::start(), X2A::start(), X2B::start()];
+            let starts = [X1A::START, X1B::START, X2A::START, X2B::START];
             at_zero(signal, prn, line, starts)
         }
         Signal::L2Cm => at_zero(signal, prn, 0, [starts::start_cm(prn), 0, 0, 0]),
         Signal::L2Cl => at_zero(signal, prn, 0, [0, starts::start_cl(prn), 0, 0]),
-        Signal::I5 => at_zero(signal, prn, 0, [XA::start(), starts::start_i5(prn), 0, 0]),
-        Signal::Q5 => at_zero(signal, prn, 0, [XA::start(), starts::start_q5(prn), 0, 0]),
+        Signal::I5 => at_zero(signal, prn, 0, [XA::START, starts::start_i5(prn), 0, 0]),
+        Signal::Q5 => at_zero(signal, prn, 0, [XA::START, starts::start_q5(prn), 0, 0]),
     }
 }

@@ -1,30 +1,7 @@
-// P's chips in lines, and the name of a P-code.
+// P's chips in lines.
 use crate::text;
 use crate::text::Digits;
-use arrayvec::ArrayString;
 use std::fmt;
-use std::fmt::Write;
-
-// P37(t+24) is the P-code of PRN 37, 24 hours on.
-#[derive(Clone, Copy, Debug, PartialEq, Eq)]
-pub struct Advance {
-    pub prn: u64,
-    pub hours: u64,
-}
-
-impl fmt::Display for Advance {
-    fn fmt<W: fmt::Write>(&self, f: &mut fmt::Formatter<W>) -> fmt::Result {
-        let Advance { prn, hours } = *self;
-        // Two numbers of up to 20 digits, and five signs.
-        let mut name = ArrayString::<45>::new();
-        write!(name, "P{prn}(t")?;
-        if 0 < hours {
-            write!(name, "+{hours}")?;
-        }
-        write!(name, ")")?;
-        f.pad(name.as_str())
-    }
-}
 
 // Chips of a line of Table 6-IV: 53 digits.
 const LINE: usize = 212;

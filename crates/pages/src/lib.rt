@@ -1,4 +1,5 @@
-// Pages: how the tables of the standards write numbers, registers and chips. What is written is a value that displays itself; no call of the engine is made here.
+// Pages: how the tables of the standards write numbers, registers and chips. What is written is a value that displays itself; no call of the engine is made
+// here.
 #![tactic(auto)]
 
 use signals::Signal;
@@ -7,7 +8,7 @@ pub mod chips;
 pub mod text;
 pub mod values;
 
-// The signals by the numbers that the calls take: a function that takes any, and refuses one that is no signal's, would ask more of its callers by a `Signal`.
+// The signals by their numbers, as the calls that are made with them take them: a `Signal` would be turned back at each.
 pub const CA: u64 = Signal::Ca as u64;
 
 pub const P: u64 = Signal::P as u64;

@@ -6,7 +6,7 @@ use std::fmt;
 
 // ---- numbers
 
-// A comma where groups of three digits are left.
+// A number with a comma between its groups of three digits, counted from the right.
 #[derive(Clone, Copy, Debug, PartialEq, Eq)]
 pub struct Grouped(pub u64);
 
@@ -43,16 +43,16 @@ impl Digits {
     }
 }
 
-// Chips or stages as one number, the first of them its highest digit in base two. If they do not fill the digits the first digit has fewer, as in the standards' octal: ten
-// chips are one digit of one chip and three digits of three.
+// Chips or stages as one number, the first of them its highest digit in base two. If they do not fill the digits the first digit has fewer, as in the
+// standards' octal: ten chips are one digit of one chip and three digits of three.
 #[derive(Clone, Copy, Debug, PartialEq, Eq)]
 pub struct Bits<const N: usize> {
     pub bits: [u8; N],
     pub digits: Digits,
 }
 
-// The remainders keep a digit below 16, whatever the bytes are. For `Lines` too, so not `Bits`' own. No clause:
-// nothing here says what a formatter has written.
+// The remainders keep a digit below 16, whatever the bytes are. For `Lines` too, so not `Bits`' own. No clause and no `ghost output`:
+// of the tables' text contracts tell the generators' names alone, and the gate compares all of it.
 pub(crate) fn write_bits<W: fmt::Write>(
     f: &mut fmt::Formatter<W>,
     bits: &[u8],

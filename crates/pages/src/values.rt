@@ -11,7 +11,7 @@ pub enum Value {
     Gap(i64),
     // The number of a chip in its cycle, at the right of four columns.
     Chip(u64),
-    // The stages of a register of the signal with this number: any is shown, and a `Signal` would ask more of callers.
+    // The stages of a register of the signal with this number. Any number is shown: a `Signal` would ask more of callers.
     Register { signal: u64, stages: u32 },
     Mode(Mode),
     // What a step gives: the opened channel, or another one.

@@ -1,4 +1,4 @@
-// The calls that hand back no channel as the console makes them: each appends its reply as a line of text.
+// The calls that hand back no channel as the console makes them: each appends its reply as a line of text, and asks for `ROOM`, as `answer_lines` says.
 #![tactic(auto)]
 
 ghost use Rattle.std.specs.Prelude.{◌≡◌, ◌≤◌, ◌+◌, ◌++◌, length};
@@ -25,7 +25,8 @@ fn chips_on<const N: usize>(
     }
 }
 
-// Chips on a buffer of so many bytes, each 0. A window has one like it: one for both would take what is done with the buffer as a closure. Inlined, it would have every byte of a session pay for its stack.
+// Chips on a buffer of so many bytes, each 0. A window has one like it: one for both would take a closure, and state what that appends for any buffer.
+// Inlined, it would have every byte of a session pay for its stack.
 #[inline(never)]
 pub fn chips<const N: usize>(
     signal: u64,

@@ -114,7 +114,7 @@ pub fn gap(signal: u64, a: u64, b: u64) -> Result<i64, Refusal>
     Ok(chips_between(week, a, b))
 }
 
-// How many chips a gap is, whatever its sign. With the sign it can be written as text.
+// How many chips a gap is, whatever its sign, for who writes it as text. A promise of its own to callers, met by `unsigned_abs` of std.
 pub fn size(chips: i64) -> u64
     ensures { result ≡ nat_abs chips }
 {

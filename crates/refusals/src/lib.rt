@@ -29,7 +29,7 @@ pub enum Refusal {
 }
 
 impl Refusal {
-    // Its number, as C and the programs tell it.
+    // Its number, as C and the programs tell it. A method and no `From`: its name says which number.
     pub const fn number(self) -> u32
         ensures { result ≡ number_of self }
     {

@@ -13,7 +13,7 @@ pub trait Register {
 
     ghost shift: { ℕ → ℕ };
 
-    // One past the highest number that it holds. An associated constant would take the constant, a ghost of it and a law; this takes a clause.
+    // One past the highest number that it holds. An associated constant would take a law in each `impl`; this takes one clause.
     fn limit() -> u32
         ensures { result ≡ 2 ^ width };
 
@@ -23,25 +23,13 @@ pub trait Register {
         ensures { result ≡ shift register };
 }
 
-// The sum modulo 2 of the digits of a number of at most thirteen. The number is folded to six digits, which keeps that sum, and digit n of
-// the constant is the sum for n.
-#[tactic(auto, using(crate::proofs::Masks::folds))]
-fn parity(x: u32) -> u32
-    requires { x < 2 ^ 13 }
-    ensures { result ≡ ones x % 2 }
-{
-    let folded = x ^ (x >> 6) ^ (x >> 12);
-    ((0x6996_9669_9669_6996u64 >> (folded % 64)) % 2) as u32
-}
-
 // One shift of a register whose highest stage stands for `top`, with a one in `taps` for each stage that is added up.
 fn shifted(register: u32, top: u32, taps: u32) -> u32
     requires some_stage { 0 < top }
     requires at_most_thirteen_stages { top ≤ 2 ^ 12 }
-    requires taps_are_stages { taps < 2 ^ 13 }
     ensures { result ≡ register % top * 2 + ones (bit_and register taps) % 2 }
 {
-    register % top * 2 + parity(register & taps)
+    register % top * 2 + (register & taps).count_ones() % 2
 }
 
 #[derive(Clone, Copy, Debug, PartialEq, Eq)]
@@ -206,7 +194,7 @@ impl Register for L2 {
     }
 }
 
-// The shift of an L2 register: of any number, where the trait asks for one below 2 ^ 27.
+// The shift of an L2 register. Beside the trait's, which asks for a number below 2 ^ 27: this one takes any, and callers may rely on it.
 #[tactic(auto, unfolding(crate::specs::Register::shift_l2))]
 pub fn shift_l2(register: u32) -> u32
     ensures { result ≡ shift_l2 register }

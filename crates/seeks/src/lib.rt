@@ -24,9 +24,6 @@ use week::Coursed;
 // E, the chips of an epoch of P.
 const EPOCH_P: u64 = 15_345_000;
 
-// The place where the week's last X1A cycle begins.
-const LAST_CYCLE: u64 = 6_187_103_995_908;
-
 // The bits of the delay line, and so the single steps that fill it.
 const LINE_BITS: u64 = 37;
 
@@ -61,10 +58,10 @@ fn fill_line(from: u64, place: u64, third: Generator, fourth: Generator) -> Fill
     let mut x2b = fourth;
     let mut line = machine::LINE_LIMIT - 1;
     for at in from..place {
-        let week_end = LAST_CYCLE <= at + 1;
+        let week_end = machine::LAST_CYCLE_X1A <= at + 1;
         line = steps::next_line(x2a.register, x2b.register, line);
-        x2a = generators::step::<X2A>(x2a, X2A::start(), week_end);
-        x2b = generators::step::<X2B>(x2b, X2B::start(), week_end);
+        x2a = generators::step::<X2A>(x2a, X2A::START, week_end);
+        x2b = generators::step::<X2B>(x2b, X2B::START, week_end);
     }
     Fill {
         third: x2a,
@@ -73,7 +70,8 @@ fn fill_line(from: u64, place: u64, third: Generator, fourth: Generator) -> Fill
     }
 }
 
-// ---- a channel at a place. That the place lies in the week is a clause of each: another signal has another week.
+// ---- a channel at a place. That the place lies in the week is a clause of each that seeks: another signal has another week. Signal, PRN and
+// place are handed on one beside the other: each is tested by itself, and C/A and P need no signal.
 
 // The leaps made, and the channel at the place sought. No `Counted<Channel>`: it is what the call seek answers, and its fields are named as the call tells them.
 #[derive(Clone, Copy, Debug, PartialEq, Eq)]
@@ -82,7 +80,7 @@ pub struct Sought {
     pub channel: Channel,
 }
 
-// A signal with at most two generators, which are handed in.
+// A signal with at most two generators, which are handed in. What it lacks is 0 and running.
 fn plain_at(
     signal: Signal,
     prn: Prn,
@@ -107,13 +105,13 @@ fn plain_at(
     Sought { leaps, channel }
 }
 
-// C/A.
+// C/A. Apart from L5's: one for both would be handed the signal, the week's courses and the second start, and take two types, for three lines.
 fn land_ca(prn: Prn, place: u64) -> Sought
     requires { place < week_ca }
     ensures { result ≡ landed (signal_ca prn.number) courses_ca 1 prn.number place }
 {
-    let g1 = generators_at::seek::<G1>(G1::start(), place, 0);
-    let g2 = generators_at::seek::<G2>(G2::start(), place, g1.count);
+    let g1 = generators_at::seek::<G1>(G1::START, place, 0);
+    let g2 = generators_at::seek::<G2>(G2::START, place, g1.count);
     plain_at(Signal::Ca, prn, place, g1.value, g2.value, g2.count)
 }
 
@@ -123,10 +121,10 @@ fn land_p(prn: Prn, place: u64) -> Sought
     ensures { result ≡ landed (signal_p prn.number) courses_p 2 prn.number place }
 {
     let from = filled_from(place);
-    let x1a = generators_at::seek::<X1A>(X1A::start(), place, 0);
-    let x1b = generators_at::seek::<X1B>(X1B::start(), place, x1a.count);
-    let x2a = generators_at::seek::<X2A>(X2A::start(), from, x1b.count);
-    let x2b = generators_at::seek::<X2B>(X2B::start(), from, x2a.count);
+    let x1a = generators_at::seek::<X1A>(X1A::START, place, 0);
+    let x1b = generators_at::seek::<X1B>(X1B::START, place, x1a.count);
+    let x2a = generators_at::seek::<X2A>(X2A::START, from, x1b.count);
+    let x2b = generators_at::seek::<X2B>(X2B::START, from, x2a.count);
     let filled = fill_line(from, place, x2a.value, x2b.value);
     let channel = Channel {
         signal: Signal::P.number(),
@@ -167,7 +165,7 @@ fn land_l5(signal: Signal, prn: Prn, start: u32, place: u64) -> Sought
     requires place_in_week { place < week_l5 }
     ensures { result ≡ landed (from_l5 start) courses_l5 (number_of signal) prn.number place }
 {
-    let xa = generators_at::seek::<XA>(XA::start(), place, 0);
+    let xa = generators_at::seek::<XA>(XA::START, place, 0);
     let xb = generators_at::seek::<XB>(start, place, xa.count);
     plain_at(signal, prn, place, xa.value, xb.value, xb.count)
 }

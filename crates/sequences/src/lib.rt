@@ -17,17 +17,17 @@ pub trait Sequence<const WORDS: usize>: Register {
     // The register of the first chip.
     ghost from: { ℕ };
 
-    // Its chips, which the proof computes to be the table. An associated constant would take the constant, a ghost of it and a law; this takes a clause.
-    fn sequence() -> [u64; WORDS]
-        ensures { result ≡ sequence Self.shift Self.width WORDS from };
+    // Its chips, which the proof computes to be the table. An associated constant would take a law in each `impl`; this takes one clause.
+    fn sequence() -> &'static [u64; WORDS]
+        ensures { result.now ≡ sequence Self.shift Self.width WORDS from };
 }
 
-// Two cycles of 1,023, which it comes round by itself, and what a word has beyond them.
+// Two cycles of 1,023 chips, for G1 comes round without being started anew, and what a word reaches beyond them.
 impl Sequence<34> for G1 {
     ghost from = { start_g1 };
 
-    fn sequence() -> [u64; 34] {
-        tables::G1
+    fn sequence() -> &'static [u64; 34] {
+        &tables::G1
     }
 }
 
@@ -35,8 +35,8 @@ impl Sequence<34> for G1 {
 impl Sequence<34> for G2 {
     ghost from = { start_g2 };
 
-    fn sequence() -> [u64; 34] {
-        tables::G2
+    fn sequence() -> &'static [u64; 34] {
+        &tables::G2
     }
 }
 
@@ -44,8 +44,8 @@ impl Sequence<34> for G2 {
 impl Sequence<65> for X1A {
     ghost from = { start_x1a };
 
-    fn sequence() -> [u64; 65] {
-        tables::X1A
+    fn sequence() -> &'static [u64; 65] {
+        &tables::X1A
     }
 }
 
@@ -53,8 +53,8 @@ impl Sequence<65> for X1A {
 impl Sequence<65> for X1B {
     ghost from = { start_x1b };
 
-    fn sequence() -> [u64; 65] {
-        tables::X1B
+    fn sequence() -> &'static [u64; 65] {
+        &tables::X1B
     }
 }
 
@@ -62,8 +62,8 @@ impl Sequence<65> for X1B {
 impl Sequence<65> for X2A {
     ghost from = { start_x2a };
 
-    fn sequence() -> [u64; 65] {
-        tables::X2A
+    fn sequence() -> &'static [u64; 65] {
+        &tables::X2A
     }
 }
 
@@ -71,8 +71,8 @@ impl Sequence<65> for X2A {
 impl Sequence<65> for X2B {
     ghost from = { start_x2b };
 
-    fn sequence() -> [u64; 65] {
-        tables::X2B
+    fn sequence() -> &'static [u64; 65] {
+        &tables::X2B
     }
 }
 
@@ -80,8 +80,8 @@ impl Sequence<65> for X2B {
 impl Sequence<129> for XA {
     ghost from = { start_xa };
 
-    fn sequence() -> [u64; 129] {
-        tables::XA
+    fn sequence() -> &'static [u64; 129] {
+        &tables::XA
     }
 }
 
@@ -89,8 +89,8 @@ impl Sequence<129> for XA {
 impl Sequence<257> for XB {
     ghost from = { 8191 };
 
-    fn sequence() -> [u64; 257] {
-        tables::XB
+    fn sequence() -> &'static [u64; 257] {
+        &tables::XB
     }
 }
 
@@ -107,7 +107,7 @@ pub fn word_at(sequence: &[u64], q: usize) -> u64
     (sequence[i] << early) | ((sequence[i + 1] >> 1) >> (63 - early))
 }
 
-// The register of chip q: its stages are the next chips, as many as it has.
+// The register of chip q: its stages are the next chips, as many as it has. The bounds of its width are clauses: each call gives it as a number.
 pub fn register_at(sequence: &[u64], q: usize, width: u32) -> u32
     requires chip_in_sequence { q / 64 + 1 < length sequence.now }
     requires some_stage { 1 ≤ width }

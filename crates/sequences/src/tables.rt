@@ -1,5 +1,4 @@
-// The sequences, 64 chips to a word, the first chip as its highest digit. `rt` computes each from its register and compares. A table that is handed out is
-// written anew wherever it is named, so each is named once, in its `impl` in `lib.rt`.
+// The sequences, 64 chips to a word, the first chip as its highest digit. `rt` computes each from its register and compares.
 
 // G1: two cycles of 1,023, and on.
 pub const G1: [u64; 34] = [

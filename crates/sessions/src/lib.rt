@@ -13,7 +13,7 @@ use commands::Command;
 use line_programs::{Answers, Dialog, Talk};
 use machine::Channel;
 
-// So many bytes of answers are written at once: any answer fits, and behind it as many bytes of short ones.
+// So many bytes of answers are written at once: up to 65,024, and behind these one answer more of any length.
 pub const OUT: usize = 131_072;
 
 // So many bytes of a line are kept, its newline among them: more than any command has.
@@ -45,6 +45,7 @@ impl<'a> Console<'a> {
         let Some(command) = commands::command_in(line, *last) else {
             return answer_lines::error(out);
         };
+        // An arm for each command: the compiler names the one that lacks an answer.
         match command {
             Command::Open(signal, prn) => channel_answers::open(signal, prn, last, out),
             Command::Seek(ch, place) => channel_answers::seek(ch, place, last, out),

@@ -1,4 +1,4 @@
-// The signals and the PRNs that there are: types inside, numbers outside. Whoever holds one of these holds a number that was tested.
+// The signals and the PRNs that there are: types inside, numbers outside. Whoever holds one of these holds a number that there is, by a test or by a proof.
 #![tactic(auto)]
 
 ghost use Rattle.std.specs.Prelude.{◌≡◌, ◌≤◌};
@@ -8,7 +8,7 @@ ghost use Rattle.signals.specs.Signals.{number_of, TakesSignal};
 use refusals::Refusal;
 pub use starts::Prn;
 
-// A signal. One more is one more line here, and the compiler names each `match` that lacks it.
+// A signal. One more is one more line here and one in `try_from`, and the compiler names each `match` on a `Signal` that lacks it.
 #[derive(Clone, Copy, Debug, PartialEq, Eq)]
 pub enum Signal {
     Ca = 1,
@@ -39,19 +39,16 @@ impl TryFrom<u64> for Signal {
 }
 
 impl Signal {
-    // The signal of a number that one has.
+    // The signal of a number from 1 to 6.
     pub fn of(number: u32) -> Signal
         requires first { 1 ≤ number }
         requires last { number ≤ 6 }
         ensures { number_of result ≡ number }
     {
-        match Signal::try_from(u64::from(number)) {
-            Ok(signal) => signal,
-            Err(_) => unreachable!(),
-        }
+        Signal::try_from(u64::from(number)).unwrap()
     }
 
-    // Its number, as channels, C and the programs tell it.
+    // Its number, as channels, C and the programs tell it. A method and no `From`: its name says which number.
     pub const fn number(self) -> u32
         ensures { result ≡ number_of self }
     {

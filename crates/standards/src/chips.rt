@@ -1,7 +1,6 @@
 // Chips of cells, or the refusal of the call that was to give them. As many as the array has, the first at the left.
-ghost use Rattle.std.specs.Prelude.{◌≡◌, ◌-◌, ◌%◌, MatchResult, map, reverse};
-ghost use Rattle.refusals.specs.Refusal.{number_of};
-ghost use Rattle.gps_chips.specs.Chips.{chips_answer, by_the_standards};
+ghost use Rattle.std.specs.Prelude.{◌≡◌, ◌-◌, ◌%◌, map, reverse};
+ghost use Rattle.standards.specs.Cells.{Told};
 ghost use Rattle.pages.specs.declared.text.Digits.TheVariants.{Binary, Hexadecimal};
 
 use pages::P;
@@ -9,8 +8,7 @@ use pages::chips::Lines;
 use pages::text::{Bits, Digits, Shown};
 use refusals::Refusal;
 
-// ---- chips by the call for C. A signal is its number here, as Chips takes it, beside its PRN and its place: a `Signal` would be turned
-// back at each call.
+// ---- chips by the call for C. A signal is its number here, as Chips takes it: a `Signal` would be turned back at each call.
 
 #[tactic(auto, unfolding(gps_chips::specs::Chips::chips_answer, gps_chips::specs::Chips::chips_buffer))]
 fn taken<const N: usize>(
@@ -19,7 +17,7 @@ fn taken<const N: usize>(
     place: u64,
     digits: Digits,
 ) -> Result<Bits<N>, Refusal>
-    ensures { MatchResult result (λ b. (chips_answer signal prn place N ≡ 0) × (b.bits ≡ by_the_standards signal prn place N) × (b.digits ≡ digits)) (λ e. number_of e ≡ chips_answer signal prn place N) }
+    ensures { Told signal prn place N (λ b chips. (b.bits ≡ chips) × (b.digits ≡ digits)) result }
 {
     let mut bits = [0u8; N];
     gps_chips::gps_chips(signal, prn, place, &mut bits)?;
@@ -28,20 +26,21 @@ fn taken<const N: usize>(
 
 // The first N of the week, in these digits. Refused as Chips refuses: 1 for the signal, 2 for the PRN, 5 for N above 65,536.
 pub fn first<const N: usize>(signal: u64, prn: u64, digits: Digits) -> Shown<Bits<N>>
-    ensures { MatchResult result.0 (λ b. (chips_answer signal prn 0 N ≡ 0) × (b.bits ≡ by_the_standards signal prn 0 N) × (b.digits ≡ digits)) (λ e. number_of e ≡ chips_answer signal prn 0 N) }
+    ensures { Told signal prn 0 N (λ b chips. (b.bits ≡ chips) × (b.digits ≡ digits)) result.0 }
 {
     Shown(taken::<N>(signal, prn, 0, digits))
 }
 
-// 256 of P from a place on, round the week. Apart from `first`, which begins at place 0. Refused with 2 for the PRN and 3 for a place not below the week.
+// 256 of P from a place on, round the week. Apart from `first`: that it is P, and in hexadecimal, stands in its clause. Refused with 2 for the PRN and 3 for
+// a place not below the week.
 pub fn first_256(prn: u64, place: u64) -> Shown<Bits<256>>
-    ensures { MatchResult result.0 (λ b. (chips_answer 2 prn place 256 ≡ 0) × (b.bits ≡ by_the_standards 2 prn place 256) × (b.digits ≡ Hexadecimal)) (λ e. number_of e ≡ chips_answer 2 prn place 256) }
+    ensures { Told 2 prn place 256 (λ b chips. (b.bits ≡ chips) × (b.digits ≡ Hexadecimal)) result.0 }
 {
     Shown(taken::<256>(P, prn, place, Digits::Hexadecimal))
 }
 
-// XB's initial state, read off the first thirteen chips and not off a register, as the note of Table 3-I of IS-GPS-705 has it: XA gives ones there, so each chip is the
-// complement of XB's; and the rightmost bit is the first one out.
+// XB's initial state, read off the first thirteen chips and not off a register, as the note of Table 3-I of IS-GPS-705 has it: XA gives ones there, so each
+// chip is the complement of XB's; and the rightmost bit is the first one out.
 fn xb_state(chips: Bits<13>) -> Bits<13>
     ensures complements { result.bits ≡ reverse (map (λ chip. 1 - chip % 2) chips.bits) }
     ensures same_digits { result.digits ≡ chips.digits }
@@ -53,7 +52,7 @@ fn xb_state(chips: Bits<13>) -> Bits<13>
 
 // That state of a signal of L5, by PRN, in binary; of another signal it is no state. Refused with 1 for the signal and 2 for the PRN.
 pub fn xb(signal: u64, prn: u64) -> Shown<Bits<13>>
-    ensures { MatchResult result.0 (λ b. (chips_answer signal prn 0 13 ≡ 0) × (b.bits ≡ reverse (map (λ chip. 1 - chip % 2) (by_the_standards signal prn 0 13))) × (b.digits ≡ Binary)) (λ e. number_of e ≡ chips_answer signal prn 0 13) }
+    ensures { Told signal prn 0 13 (λ b chips. (b.bits ≡ reverse (map (λ chip. 1 - chip % 2) chips)) × (b.digits ≡ Binary)) result.0 }
 {
     Shown(taken::<13>(signal, prn, 0, Digits::Binary).map(xb_state))
 }
@@ -62,7 +61,7 @@ pub fn xb(signal: u64, prn: u64) -> Shown<Bits<13>>
 
 // Not by `states::reach`, which has no clause.
 fn reached(prn: u64, place: u64) -> Result<[u8; 1_024], Refusal>
-    ensures { MatchResult result (λ chips. (chips_answer 2 prn place 1024 ≡ 0) × (chips ≡ by_the_standards 2 prn place 1024)) (λ e. number_of e ≡ chips_answer 2 prn place 1024) }
+    ensures { Told 2 prn place 1024 (λ written chips. written ≡ chips) result }
 {
     let opened = engine::open(P, prn)?;
     let sought = engine::seek(opened, place)?;
@@ -73,7 +72,7 @@ fn reached(prn: u64, place: u64) -> Result<[u8; 1_024], Refusal>
 
 // 1,024 chips of P from a place on, round the week. Refused with 2 for the PRN and 3 for a place not below the week.
 pub fn last_1024(prn: u64, place: u64) -> Shown<Lines<1024>>
-    ensures { MatchResult result.0 (λ lines. (chips_answer 2 prn place 1024 ≡ 0) × (lines.0 ≡ by_the_standards 2 prn place 1024)) (λ e. number_of e ≡ chips_answer 2 prn place 1024) }
+    ensures { Told 2 prn place 1024 (λ lines chips. lines.0 ≡ chips) result.0 }
 {
     Shown(reached(prn, place).map(Lines))
 }

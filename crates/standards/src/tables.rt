@@ -2,7 +2,6 @@
 use crate::chips::{first, first_256, last_1024, xb};
 use layout::{CYCLE_ENDS, Coder, Field, RESETS, SELECTED, Selected};
 use machine::{LAST_CL, LAST_CM};
-use pages::chips::Advance;
 use pages::text::{Digits, Shown};
 use pages::values::Value;
 use pages::{CA, CL, CM, I5, P, Q5};
@@ -23,7 +22,8 @@ impl fmt::Display for Tables {
     }
 }
 
-// ---- tables with a row for each PRN from 1 to 37
+// ---- tables with a row for each PRN from 1 to 37. A function for each table, and none like `write_selected` below, whose rows differ in the
+// last cell alone: here a row has two cells or four, of types of their own.
 
 fn write_code_phases<W: fmt::Write>(f: &mut fmt::Formatter<W>) -> fmt::Result {
     writeln!(
@@ -39,8 +39,7 @@ fn write_code_phases<W: fmt::Write>(f: &mut fmt::Formatter<W>) -> fmt::Result {
     writeln!(f)
 }
 
-// A register of L2 as a channel is opened. Here and below a signal is its number, as `states` takes it: a `Signal` would be
-// turned back at each call. Apart from the next, which has a place.
+// A register of L2 as a channel is opened. Here and below a signal is its number, as `states` takes it. Apart from the next, which has a place.
 fn initial(signal: u64, prn: u64, coder: Coder) -> Shown<Value> {
     Shown(states::at_open(signal, prn, Field::Register(coder)))
 }
@@ -82,7 +81,7 @@ fn write_xb_states<W: fmt::Write>(f: &mut fmt::Formatter<W>) -> fmt::Result {
     writeln!(f)
 }
 
-// ---- P's generators, of PRN 1
+// ---- P's generators, of PRN 1. A function for each table, as above.
 
 // A field of P at a place. No clause: what `states` sees of a channel has none, and the gate compares all that is written.
 pub(crate) fn p_at(place: u64, field: Field) -> Shown<Value> {
@@ -122,44 +121,37 @@ fn write_final_vectors<W: fmt::Write>(f: &mut fmt::Formatter<W>) -> fmt::Result 
 
 // ---- P's chips at the ends of the week, of selected PRNs
 
-// The PRN at the left of its row, and the P-code that it has.
-fn write_selected<W: fmt::Write>(
+// A row has the PRN, the P-code that it has, and chips of that one.
+fn write_selected<W: fmt::Write, T: fmt::Display + Drop, F: Fn(Selected) -> T>(
     f: &mut fmt::Formatter<W>,
-    prn: u8,
-    selected: Selected,
-) -> fmt::Result {
-    let advance = Advance {
-        prn: selected.prn,
-        hours: selected.days * 24,
-    };
-    write!(f, "{prn:03}  {advance:<10}  ")
-}
-
-// Apart from the next: a title and a call are all that they say, which one for both would be handed.
-fn write_first_chips<W: fmt::Write>(f: &mut fmt::Formatter<W>) -> fmt::Result {
-    writeln!(
-        f,
-        "IS-GPS-200 Table 6-III. First 256 P-code Chips of the Week for Selected Code Phase Assignments\n\n\
-         PRN  Advance     P-code, left-to-right from beginning of GPS week (hexadecimal)"
-    )?;
+    title: &str,
+    chips_of: F,
+) -> fmt::Result
+    requires { F.IsAlwaysCallable chips_of }
+{
+    writeln!(f, "{title}")?;
     for prn in SELECTED {
-        let selected = Selected::of(prn);
-        write_selected(f, prn, selected)?;
-        writeln!(f, "{}", first_256(selected.prn, selected.first()))?;
+        let selected = Selected::from(prn);
+        let chips = chips_of(selected);
+        writeln!(f, "{prn:03}  {selected:<10}  {chips}")?;
     }
     writeln!(f)
+}
+
+fn write_first_chips<W: fmt::Write>(f: &mut fmt::Formatter<W>) -> fmt::Result {
+    write_selected(
+        f,
+        "IS-GPS-200 Table 6-III. First 256 P-code Chips of the Week for Selected Code Phase Assignments\n\n\
+         PRN  Advance     P-code, left-to-right from beginning of GPS week (hexadecimal)",
+        |selected| first_256(selected.prn, selected.first()),
+    )
 }
 
 fn write_last_chips<W: fmt::Write>(f: &mut fmt::Formatter<W>) -> fmt::Result {
-    writeln!(
+    write_selected(
         f,
         "IS-GPS-200 Table 6-IV. Last 1024 P-code Chips of the Week for Selected Code Phase Assignments\n\n\
-         PRN  Advance     P-code, left-to-right to last chip of GPS week (hexadecimal)"
-    )?;
-    for prn in SELECTED {
-        let selected = Selected::of(prn);
-        write_selected(f, prn, selected)?;
-        writeln!(f, "{}", last_1024(selected.prn, selected.last_1024()))?;
-    }
-    writeln!(f)
+         PRN  Advance     P-code, left-to-right to last chip of GPS week (hexadecimal)",
+        |selected| last_1024(selected.prn, selected.last_1024()),
+    )
 }

@@ -40,75 +40,60 @@ pub struct Stages {
 
 // A register that begins alike for every PRN.
 pub trait FixedStart: Register {
-    ghost start: { ℕ };
+    // Its start vector: stage k is binary digit k - 1.
+    const START: u32;
 
-    // Its start vector: stage k is binary digit k - 1. An associated constant would take the constant, a ghost of it and a law; this takes a clause.
-    fn start() -> u32
-        ensures { result ≡ start };
+    ghost START: { ℕ };
 }
 
 impl FixedStart for G1 {
-    ghost start = { start_g1 };
+    const START: u32 = 0b11_1111_1111;
 
-    fn start() -> u32 {
-        0b11_1111_1111
-    }
+    ghost START = { start_g1 };
 }
 
 impl FixedStart for G2 {
-    ghost start = { start_g2 };
+    const START: u32 = 0b11_1111_1111;
 
-    fn start() -> u32 {
-        0b11_1111_1111
-    }
+    ghost START = { start_g2 };
 }
 
 impl FixedStart for XA {
-    ghost start = { start_xa };
+    const START: u32 = 0b1_1111_1111_1111;
 
-    fn start() -> u32 {
-        0b1_1111_1111_1111
-    }
+    ghost START = { start_xa };
 }
 
 impl FixedStart for X1A {
-    ghost start = { start_x1a };
+    const START: u32 = 0b0010_0100_1000;
 
-    fn start() -> u32 {
-        0b0010_0100_1000
-    }
+    ghost START = { start_x1a };
 }
 
 impl FixedStart for X1B {
-    ghost start = { start_x1b };
+    const START: u32 = 0b0101_0101_0100;
 
-    fn start() -> u32 {
-        0b0101_0101_0100
-    }
+    ghost START = { start_x1b };
 }
 
 impl FixedStart for X2A {
-    ghost start = { start_x2a };
+    const START: u32 = 0b1001_0010_0101;
 
-    fn start() -> u32 {
-        0b1001_0010_0101
-    }
+    ghost START = { start_x2a };
 }
 
 impl FixedStart for X2B {
-    ghost start = { start_x2b };
+    const START: u32 = 0b0101_0101_0100;
 
-    fn start() -> u32 {
-        0b0101_0101_0100
-    }
+    ghost START = { start_x2b };
 }
 
 // The two stages of G2 that the C/A code of a PRN adds to G1.
 pub fn stages_ca(prn: Prn) -> Stages
     ensures { result ≡ stages_of prn.number }
 {
-    let table = &tables::STAGES; // lent: by value, all of it would be written to the stack
-    let (first, second) = table[prn.number as usize - 1];
+    let table = &tables::STAGES; // lent: read by value, a table of pairs would all be written to the stack, as one of numbers is not
+    let (first, second) = table[prn.row()];
     Stages { first, second }
 }
 
@@ -117,7 +102,7 @@ pub fn stages_ca(prn: Prn) -> Stages
 pub fn start_cm(prn: Prn) -> u32
     ensures { result ≡ start_cm prn.number }
 {
-    tables::CM[prn.number as usize - 1]
+    tables::CM[prn.row()]
 }
 
 // The start of L2 CL for a PRN.
@@ -125,7 +110,7 @@ pub fn start_cm(prn: Prn) -> u32
 pub fn start_cl(prn: Prn) -> u32
     ensures { result ≡ start_cl prn.number }
 {
-    tables::CL[prn.number as usize - 1]
+    tables::CL[prn.row()]
 }
 
 // The start of XB of I5 for a PRN.
@@ -133,7 +118,7 @@ pub fn start_cl(prn: Prn) -> u32
 pub fn start_i5(prn: Prn) -> u32
     ensures { result ≡ start_i5 prn.number }
 {
-    tables::I5[prn.number as usize - 1]
+    tables::I5[prn.row()]
 }
 
 // The start of XB of Q5 for a PRN.
@@ -141,5 +126,5 @@ pub fn start_i5(prn: Prn) -> u32
 pub fn start_q5(prn: Prn) -> u32
     ensures { result ≡ start_q5 prn.number }
 {
-    tables::Q5[prn.number as usize - 1]
+    tables::Q5[prn.row()]
 }

@@ -36,7 +36,8 @@ fn seen(sought: Sought, field: Field) -> Value {
 
 // ---- places
 
-// Where open and seek lead, or the refusal of the one that refused. Here and below a signal is a number: any is taken, and a `Signal` would ask more of callers.
+// Where open and seek lead, or the refusal of the one that refused. Here and below a signal, a PRN and a place are numbers, as `engine::open`, `engine::seek`
+// and `places::gap` take them: a `Signal` would be turned back at each call, and ask more of callers than a number.
 pub fn reach(signal: u64, prn: u64, place: u64) -> Result<Sought, Refusal> {
     let opened = engine::open(signal, prn)?;
     Ok(engine::seek(opened, place)?)

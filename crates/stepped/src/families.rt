@@ -1,20 +1,20 @@
 // The families of signals: channels of a family are stepped alike, but for what their PRN decides.
 
 ghost use Rattle.std.specs.Prelude.{ℕ, ◌≡◌, ⊤};
-ghost use Rattle.starts.specs.Starts.{stages_of, start_cm, start_cl, start_i5, start_q5};
+ghost use Rattle.starts.specs.Starts.{stages_of};
 ghost use Rattle.machine.specs.Signals.{Signal, signal_ca, signal_p, from_l5};
 ghost use Rattle.machine.specs.Machine.{step_as};
 ghost use Rattle.steps.specs.Inner.{from_l2};
 ghost use Rattle.stepped.specs.Inner.{Of};
 
 use machine::Channel;
-use starts::{Prn, Stages};
+use starts::Stages;
 use std::marker::PhantomData;
 use steps::L2Code;
 
 // A family. Its value holds what the PRN decides.
 // That a channel is of the family, and the value its PRN's, are clauses: no type of a channel knows the family.
-// One impl for each family: each names other functions of `steps` and another start.
+// One impl for each family: each names other functions of `steps`, and all but P's hold something else that the PRN decides.
 pub trait Family: Copy {
     // The signal of each PRN, given that value.
     ghost signal: { Self → ℕ → Signal };
@@ -39,17 +39,6 @@ pub trait Family: Copy {
 #[derive(Clone, Copy, Debug, PartialEq, Eq)]
 pub struct Ca {
     pub stages: Stages,
-}
-
-impl Ca {
-    // For a PRN.
-    pub fn of(prn: Prn) -> Ca
-        ensures { result.stages ≡ stages_of prn.number }
-    {
-        Ca {
-            stages: starts::stages_ca(prn),
-        }
-    }
 }
 
 impl Family for Ca {
@@ -95,26 +84,13 @@ pub type Cm = L2<generators::Cm>;
 
 pub type Cl = L2<generators::Cl>;
 
-// Two functions `of`, for each ensures another start.
-impl Cm {
-    // For a PRN.
-    pub fn of(prn: Prn) -> Cm
-        ensures { result.start ≡ start_cm prn.number }
+impl<C> L2<C> {
+    // From the start that the code has for a PRN.
+    pub fn new(start: u32) -> L2<C>
+        ensures { result.start ≡ start }
     {
         L2 {
-            start: starts::start_cm(prn),
-            code: PhantomData,
-        }
-    }
-}
-
-impl Cl {
-    // For a PRN.
-    pub fn of(prn: Prn) -> Cl
-        ensures { result.start ≡ start_cl prn.number }
-    {
-        L2 {
-            start: starts::start_cl(prn),
+            start,
             code: PhantomData,
         }
     }
@@ -134,31 +110,10 @@ impl<C: L2Code> Family for L2<C> {
     }
 }
 
-// I5 and Q5, from XB's start.
+// I5 and Q5, from XB's start. Apart from `L2`: two generators are stepped, and both codes have the same two.
 #[derive(Clone, Copy, Debug, PartialEq, Eq)]
 pub struct L5 {
     pub start: u32,
-}
-
-// Two functions, for each ensures another start.
-impl L5 {
-    // I5's, for a PRN.
-    pub fn of_i5(prn: Prn) -> L5
-        ensures { result.start ≡ start_i5 prn.number }
-    {
-        L5 {
-            start: starts::start_i5(prn),
-        }
-    }
-
-    // Q5's, for a PRN.
-    pub fn of_q5(prn: Prn) -> L5
-        ensures { result.start ≡ start_q5 prn.number }
-    {
-        L5 {
-            start: starts::start_q5(prn),
-        }
-    }
 }
 
 impl Family for L5 {

@@ -1,6 +1,6 @@
 // Windows step by step: the chips of so many steps of a channel in range, written over a slice, and the channel so many steps on. What a PRN decides
 // is looked up once a window and not once a chip, and stands in the value of its family. Short windows are written so, the chips between two runs, and
-// windows of C/A channels whose registers are not the ones of their phases.
+// channels whose registers are not the ones of their phases: of P and L5 until they are, of C/A all along.
 #![tactic(auto)]
 
 ghost use Rattle.machine.specs.Ranged.{Ranged};
@@ -25,7 +25,7 @@ pub fn write<F: Family>(family: F, ch: Channel, out: &mut [u8]) -> Channel
     write_here(family, ch, out)
 }
 
-// The same, set in where it is called, so that what nothing there reads of the channel after it is not reckoned: a tenth of the time of C/A and L2.
+// The same, inlined: where a caller drops the channel after it, what only that channel needs isn't computed, a tenth of the time of C/A and L2.
 #[inline(always)]
 fn write_here<F: Family>(family: F, ch: Channel, out: &mut [u8]) -> Channel
     requires of { Of (F.signal family) ch }
@@ -41,8 +41,8 @@ fn write_here<F: Family>(family: F, ch: Channel, out: &mut [u8]) -> Channel
 }
 
 // Writes the chips of a channel in range, of any signal, over a slice, and gives the channel after them.
-// That it is in range is a clause: an `InRange` would be made of the channel that a seek gives, and taken apart again in each arm.
-// A match: each arm has a family of another type, which is looked up for its signal alone. P's and L5's loops are slower set in here.
+// That it is in range is a clause: an `InRange` would be made of the channel that a seek gives, only to be taken apart here.
+// An arm for each signal: the compiler names each `match` that lacks one. P's and L5's loops are slower set in here.
 #[inline(always)]
 pub fn write_chips(ch: Channel, out: &mut [u8]) -> Channel
     requires { Ranged ch }
@@ -50,11 +50,20 @@ pub fn write_chips(ch: Channel, out: &mut [u8]) -> Channel
 {
     let prn = Prn { number: ch.prn };
     match Signal::of(ch.signal) {
-        Signal::Ca => write_here(Ca::of(prn), ch, out),
+        Signal::Ca => {
+            let stages = starts::stages_ca(prn);
+            write_here(Ca { stages }, ch, out)
+        }
         Signal::P => write(P, ch, out),
-        Signal::L2Cm => write_here(Cm::of(prn), ch, out),
-        Signal::L2Cl => write_here(Cl::of(prn), ch, out),
-        Signal::I5 => write(L5::of_i5(prn), ch, out),
-        Signal::Q5 => write(L5::of_q5(prn), ch, out),
+        Signal::L2Cm => write_here(Cm::new(starts::start_cm(prn)), ch, out),
+        Signal::L2Cl => write_here(Cl::new(starts::start_cl(prn)), ch, out),
+        Signal::I5 => {
+            let start = starts::start_i5(prn);
+            write(L5 { start }, ch, out)
+        }
+        Signal::Q5 => {
+            let start = starts::start_q5(prn);
+            write(L5 { start }, ch, out)
+        }
     }
 }

@@ -45,7 +45,7 @@ pub trait Runs {
         requires of { Of (signal self.now) ch }
         ensures { WindowFrom ch out.old out.new result };
 
-    // The single steps between two runs, at least one. An associated constant would take the constant, a ghost of it and a law; this takes a clause.
+    // The single steps between two runs, at least one. An associated constant would take a law in each `impl`; this takes one clause.
     fn between() -> usize
         ensures { 0 < result };
 }

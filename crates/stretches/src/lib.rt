@@ -19,19 +19,14 @@ pub fn stretch_of(g: Generator, last: u32) -> u32
     ensures { result ≡ stretch last g }
 {
     match g.mode {
-        Mode::Running => {
-            if g.phase < last {
-                last - 1 - g.phase
-            } else {
-                0
-            }
-        }
+        Mode::Running => last.saturating_sub(1).saturating_sub(g.phase),
         Mode::Held(h) => h,
     }
 }
 
-// Whether a generator's register is the one of its phase. The table begins `from` chips before phase 0. Here and below a table, where it begins and its
-// stages are arguments beside one another, since each call gives the last two as numbers: a struct of the three would need facts of them at each use.
+// Whether a generator's register is the one of its phase. The table begins `from` chips before phase 0. Here and below a table, where it begins and a stage
+// or the stages are arguments beside one another, and their bounds are clauses: but for XB's advance each call gives them as numbers, and a struct of the
+// three would need facts of them at each use.
 pub fn fits(g: Generator, sequence: &[u64], from: usize, width: u32) -> bool
     requires table_begins_near { from ≤ 65536 }
     requires phase_in_bounds { (from + g.phase) / 64 + 1 < length sequence.now }
@@ -42,7 +37,8 @@ pub fn fits(g: Generator, sequence: &[u64], from: usize, width: u32) -> bool
     sequences::register_at(sequence, from + g.phase as usize, width) == g.register
 }
 
-// The 64 chips that stage k gives from n steps on in a stretch.
+// The 64 chips that stage k gives from n steps on in a stretch. `Within` is a clause here, below and in the windows: it is of a generator, its table and a
+// step at once, and no value has the three.
 #[tactic(auto, unfolding(registers::specs::Register::stage))]
 pub fn word_of(g: Generator, k: u32, sequence: &[u64], from: usize, n: usize) -> u64
     requires within { Within g from n (length sequence.now) }

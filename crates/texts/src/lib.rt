@@ -1,4 +1,5 @@
-// Text: bytes as they are, chips, a refusal. It is put behind what stands in a vector of fixed room.
+// Text: bytes as they are, chips, a refusal. It is put behind what stands in a vector of fixed room. Functions and no `Display`, here and in the crates above: a
+// contract says every byte that is appended, and who asks for the room in a clause has no error to handle. A type that carried the room would borrow the vector.
 #![tactic(auto)]
 
 ghost use Rattle.std.specs.Prelude.{◌≡◌, map, ◌≤◌, ◌+◌, ◌++◌, length};

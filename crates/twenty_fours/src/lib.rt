@@ -13,31 +13,32 @@ use digits::Spread;
 mod tables;
 
 // What each value of the six lowest hexadecimal digits gives, and the table by which the chips are written.
-#[derive(Drop)]
-pub struct Table<'a> {
-    entries: [u64; 96],
-    spread: &'a Spread,
-    ghost entries_are: { entries ≡ table_l2 },
+#[derive(Clone, Copy)]
+pub struct Table {
+    entries: &'static [u64; 96],
+    spread: Spread,
+    ghost entries_are: { entries.now ≡ table_l2 },
 }
 
-impl Table<'_> {
-    // The table, given the one by which the chips are written.
+impl Table {
+    // The table.
     #[tactic(auto, unfolding(crate::specs::TwentyFours::table_l2, digits::specs::Digits::row, sequences::specs::Sequences::given, registers::specs::Times::times, registers::specs::Register::shift_l2, registers::specs::Register::stage))]
-    pub fn new(spread: &Spread) -> Table<'_> {
+    pub fn new() -> Table {
         Table {
-            entries: tables::L2,
-            spread,
+            entries: &tables::L2,
+            spread: Spread::new(),
         }
     }
 
     // The next twenty-four chips of a register, and behind them in 32 digits the register after them.
     #[tactic(auto, using(crate::proofs::ByDigits::by_digits))]
-    fn twenty_four(&self, register: u32) -> u64
+    fn twenty_four(self, register: u32) -> u64
         requires register_of_l2 { register < 2 ^ 27 }
         ensures { result ≡ twenty_four_of register }
     {
-        let table = &self.entries;
-        // the six digits that reach the lowest place within twenty-four shifts, each with its sixteen entries of the table
+        let table = self.entries;
+        // the six digits that reach the lowest place within twenty-four shifts, each with its sixteen entries of the table; written out and not folded, so that
+        // the sums can stand in groups, and few of them need to wait for one another
         let k0 = (register % 16) as usize;
         let k1 = ((register >> 4) % 16) as usize;
         let k2 = ((register >> 8) % 16) as usize;
@@ -46,14 +47,13 @@ impl Table<'_> {
         let k5 = ((register >> 20) % 16) as usize;
         // what lies beyond them moves down and is not yet given
         let rest = u64::from(register >> 24);
-        // in groups, so that few of the sums need to wait for one another
         ((rest ^ table[80 + k5]) ^ (table[64 + k4] ^ table[48 + k3]))
             ^ ((table[32 + k2] ^ table[16 + k1]) ^ table[k0])
     }
 
     // Writes the next chips of a register over a slice of whole twenty-fours, and gives the register after them. A generator's register is a number, so that it
     // has 27 stages is a clause.
-    pub fn write(&self, register: u32, out: &mut [u8]) -> u32
+    pub fn write(self, register: u32, out: &mut [u8]) -> u32
         requires register_of_l2 { register < 2 ^ 27 }
         requires whole_twenty_fours { length out.old ≡ length out.old / 24 * 24 }
         ensures { (result ≡ times shift_l2 (length out.old) register) × (out.new ≡ row (λ j. times shift_l2 j register % 2) (length out.old)) }

@@ -1,5 +1,4 @@
-// What the lowest twenty-four digits of an L2 register give. `rt` computes the table from the register and compares. A table is written anew wherever
-// it is named, so it is named once, in `Table::new`.
+// What the lowest twenty-four digits of an L2 register give. `rt` computes the table from the register and compares.
 
 // Entry 16 m + k, for the value k of hexadecimal digit m, the lowest being digit 0: twenty-four chips, and behind them in 32 digits the register
 // after them.

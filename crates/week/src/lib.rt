@@ -86,7 +86,7 @@ fn cut_course<C: Code>() -> Course
 pub trait Coursed: Code {
     ghost course: { Course };
 
-    // Its course. An associated constant would take the constant, a ghost of it and a law; this takes a clause.
+    // Its course. A function, for a constant can't be reckoned by a plan, which asks the code's own functions.
     fn course() -> Course
         ensures { result ≡ course };
 

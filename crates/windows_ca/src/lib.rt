@@ -22,19 +22,20 @@ use stepped::Ca;
 // The chips after which those of C/A come again.
 const PERIOD: usize = 1_023;
 
-// The chips of G1 and of G2, and the two stages of G2 that a PRN adds.
+// The chips of G1 and of G2, and the two stages of G2 that a PRN adds. Where one is lent on as a slice the reference is taken
+// out of it first: what a field refers to isn't lent so.
 #[derive(Drop)]
-struct ByTables<'a> {
-    g1: [u64; 34],
-    g2: [u64; 34],
+struct ByTables {
+    g1: &'static [u64; 34],
+    g2: &'static [u64; 34],
     stages: Stages,
-    spread: &'a Spread,
-    ghost tables: { Tables g1 g2 },
+    spread: Spread,
+    ghost tables: { Tables g1.now g2.now },
 }
 
 // ---- from the tables
 
-impl ByTables<'_> {
+impl ByTables {
     // The next 64 chips from i steps on. What a stage of G2 gives, its last stage gives so many steps later as it stands behind it.
     #[tactic(auto, using(crate::proofs::RoundCA::lengths, crate::proofs::WordsCA::word_chips))]
     fn word_on(&self, ch: Channel, i: usize) -> u64
@@ -42,10 +43,11 @@ impl ByTables<'_> {
         requires in_period { i ≤ 1022 }
         ensures { Tells result 64 (λ j. chip_on self.now.stages ch (i + j)) }
     {
-        let first = sequences::word_at(&self.g1, ch.first.phase as usize + i);
+        let ByTables { g1, g2, stages, .. } = *self;
+        let first = sequences::word_at(g1, ch.first.phase as usize + i);
         let phase = ch.second.phase as usize;
-        let second = sequences::word_at(&self.g2, 10 - self.stages.first as usize + phase + i);
-        let third = sequences::word_at(&self.g2, 10 - self.stages.second as usize + phase + i);
+        let second = sequences::word_at(g2, 10 - stages.first as usize + phase + i);
+        let third = sequences::word_at(g2, 10 - stages.second as usize + phase + i);
         first ^ second ^ third
     }
 
@@ -73,8 +75,9 @@ impl ByTables<'_> {
         requires { RangedAs (signal_ca ch.prn) ch }
         ensures { result ≡ true → Fitting ch }
     {
-        let first = stretches::fits(ch.first, &self.g1, 0, 10);
-        let second = stretches::fits(ch.second, &self.g2, 0, 10);
+        let ByTables { g1, g2, .. } = *self;
+        let first = stretches::fits(ch.first, g1, 0, 10);
+        let second = stretches::fits(ch.second, g2, 0, 10);
         first & second
     }
 
@@ -91,8 +94,8 @@ impl ByTables<'_> {
         repeat(out);
         Channel {
             place: (ch.place + count as u64 % machine::WEEK_CA) % machine::WEEK_CA,
-            first: turned(ch.first, &self.g1, count),
-            second: turned(ch.second, &self.g2, count),
+            first: turned(ch.first, self.g1, count),
+            second: turned(ch.second, self.g2, count),
             ..ch
         }
     }
@@ -111,7 +114,7 @@ fn repeat(out: &mut [u8])
 
 // ---- a generator
 
-// The generator n steps on, its register read from its table.
+// The generator n steps on, its register read from its table. Apart from `stretches::after`: it comes round by itself, and is never held.
 fn turned(g: Generator, table: &[u64; 34], n: usize) -> Generator
     requires { g.phase ≤ 1022 }
     ensures { result ≡ in_cycle (word_in table.now ((g.phase + n) % 1023) / 2 ^ (64 - 10)) ((g.phase + n) % 1023) }
@@ -127,9 +130,8 @@ fn turned(g: Generator, table: &[u64; 34], n: usize) -> Generator
 
 // ---- the window
 
-// Writes the chips of a C/A channel over a slice, and gives the channel after them. No type of a channel knows its signal or its stages: two clauses; the table
-// of digits is made once, in `windows`, and lent, for it is written anew wherever it is made.
-pub fn write(family: Ca, ch: Channel, spread: &Spread, out: &mut [u8]) -> Channel
+// Writes the chips of a C/A channel over a slice, and gives the channel after them. No type of a channel knows its signal or its stages: two clauses.
+pub fn write(family: Ca, ch: Channel, out: &mut [u8]) -> Channel
     requires of { Of signal_ca ch }
     requires stages_of_prn { family.stages ≡ stages_of ch.prn }
     ensures { WindowFrom ch out.old out.new result }
@@ -138,7 +140,7 @@ pub fn write(family: Ca, ch: Channel, spread: &Spread, out: &mut [u8]) -> Channe
         g1: G1::sequence(),
         g2: G2::sequence(),
         stages: family.stages,
-        spread,
+        spread: Spread::new(),
     };
     if tables.fitting(ch) {
         tables.write_all(ch, out)

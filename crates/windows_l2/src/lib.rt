@@ -5,7 +5,6 @@
 ghost use Rattle.steps.specs.Inner.{from_l2};
 ghost use Rattle.stepped.specs.Inner.{Of, WindowFrom};
 
-use digits::Spread;
 use machine::Channel;
 use stepped::L2;
 use steps::L2Code;
@@ -15,15 +14,14 @@ mod runs;
 
 use runs::TwentyFours;
 
-// Writes the chips of a channel of L2 CM or L2 CL over a slice, and gives the channel after them. `Of` is a clause, for no type of a channel knows its signal;
-// the table of digits is made once, in `windows`, and lent, for it is written anew wherever it is made.
-pub fn write<C: L2Code>(code: L2<C>, ch: Channel, spread: &Spread, out: &mut [u8]) -> Channel
+// Writes the chips of a channel of L2 CM or L2 CL over a slice, and gives the channel after them. `Of` is a clause, for no type of a channel knows its signal.
+pub fn write<C: L2Code>(code: L2<C>, ch: Channel, out: &mut [u8]) -> Channel
     requires { Of (λ prn. from_l2 C.is_first C.cycle code.start) ch }
     ensures { WindowFrom ch out.old out.new result }
 {
     let runs = TwentyFours {
         code,
-        table: Table::new(spread),
+        table: Table::new(),
     };
     stepped::write_by_runs(&runs, ch, out)
 }

@@ -15,20 +15,20 @@ use twenty_fours::Table;
 
 // What a window of one of the two codes is written by.
 #[derive(Drop)]
-pub struct TwentyFours<'a, C: L2Code> {
+pub struct TwentyFours<C: L2Code> {
     pub code: L2<C>,
-    pub table: Table<'a>,
+    pub table: Table,
 }
 
-// The last phase of a code's cycle, the same in each.
+// The last phase of a code's cycles, which are all of one length.
 fn last<C: L2Code>() -> u32
     ensures { result ≡ C.cycle - 1 }
 {
     C::last(0)
 }
 
-// The chips before the last phase of the cycle and before the week's end, in at most `most`, by whole twenty-fours. Only the place of a channel comes here,
-// so that it lies in the week is a clause.
+// The chips before the last phase of the cycle and before the week's end, in at most `most`, by whole twenty-fours. Apart from P's and L5's: one generator, and
+// whole twenty-fours. Only the place of a channel comes here, so that it lies in the week is a clause.
 fn run_before(g: Generator, last: u32, place: u64, most: usize) -> Option<usize>
     requires { place < week_l2 }
     ensures { RunAtMost most (IsRun last place g) result }
@@ -41,7 +41,7 @@ fn run_before(g: Generator, last: u32, place: u64, most: usize) -> Option<usize>
 
 // Writes the chips of a run over a slice and gives the generator after them. It runs all along, so its mode stays. That
 // the register is one of 27 stages is a clause here and in `twenty_fours`: a generator's register is a number.
-fn write_run(g: Generator, table: &Table<'_>, out: &mut [u8]) -> Generator
+fn write_run(g: Generator, table: Table, out: &mut [u8]) -> Generator
     requires register_of_l2 { g.register < 2 ^ 27 }
     requires never_held { mode_in_range false g.mode ≡ true }
     requires phase_fits { g.phase + length out.old < 2 ^ 32 }
@@ -56,7 +56,7 @@ fn write_run(g: Generator, table: &Table<'_>, out: &mut [u8]) -> Generator
     }
 }
 
-impl<C: L2Code> Runs for TwentyFours<'_, C> {
+impl<C: L2Code> Runs for TwentyFours<C> {
     ghost signal = { λ runs prn. from_l2 C.is_first C.cycle runs.code.start };
 
     ghost is_run = { λ runs n ch. IsRun (C.cycle - 1) ch.place (own_of C.is_first ch) n };
@@ -74,7 +74,7 @@ impl<C: L2Code> Runs for TwentyFours<'_, C> {
 
     fn go_along(&self, ch: Channel, out: &mut [u8]) -> Channel {
         let n = out.len();
-        let after = write_run(C::own(ch), &self.table, out);
+        let after = write_run(C::own(ch), self.table, out);
         let there = C::with_own(ch, after);
         plain_runs::move_by(ch, n, there.first, there.second)
     }
@@ -83,6 +83,7 @@ impl<C: L2Code> Runs for TwentyFours<'_, C> {
         stepped::write(self.code, ch, out)
     }
 
+    // With the trait's clause, which an `impl` for a type with a parameter has to repeat.
     fn between() -> usize
         ensures { 0 < result }
     {

@@ -1,6 +1,6 @@
 // Windows of I5 and Q5 at memory speed: runs of chips in which neither XA nor XB begins a cycle anew, added up from words of their tables, and single
 // steps between them. XB has one table from all ones, in which a PRN begins at its advance. A run needs each register to be the one of its phase, which
-// is tested; other channels are stepped.
+// is tested; until it is, the channel is stepped.
 #![tactic(auto)]
 
 ghost use Rattle.std.specs.Prelude.{◌≡◌, true, ◌<◌, ◌≤◌, length};
@@ -40,7 +40,7 @@ impl Start {
     {
         Start {
             start: starts::start_i5(prn),
-            advance: tables::I5[prn.number as usize - 1],
+            advance: tables::I5[prn.row()],
         }
     }
 
@@ -50,38 +50,39 @@ impl Start {
     {
         Start {
             start: starts::start_q5(prn),
-            advance: tables::Q5[prn.number as usize - 1],
+            advance: tables::Q5[prn.row()],
         }
     }
 }
 
-// The chips of XA and XB, and where a PRN begins in XB's.
+// The chips of XA and XB, and where a PRN begins in XB's. Each use takes the references out of it first: what a field refers to isn't lent on as a slice.
 #[derive(Drop)]
-struct ByTables<'a> {
-    xa: [u64; 129],
-    xb: [u64; 257],
+struct ByTables {
+    xa: &'static [u64; 129],
+    xb: &'static [u64; 257],
     of: Start,
-    spread: &'a Spread,
-    ghost tables: { Tables xa xb },
+    spread: Spread,
+    ghost tables: { Tables xa.now xb.now },
 }
 
 // ---- a run
 
-impl ByTables<'_> {
-    // The 64 chips from n steps on. P has a function of its own: one for both would take eight arguments for one sum.
+impl ByTables {
+    // The 64 chips from n steps on. P has a function of its own: one for both would take seven arguments for one sum.
     fn word_of(&self, a: Generator, b: Generator, n: usize) -> u64
-        requires first_within { Within a 0 n (length self.now.xa) }
-        requires second_within { Within b self.now.of.advance n (length self.now.xb) }
-        ensures { result ≡ bit_xor (word_at 13 a self.now.xa 0 n) (word_at 13 b self.now.xb self.now.of.advance n) }
+        requires first_within { Within a 0 n (length self.now.xa.now) }
+        requires second_within { Within b self.now.of.advance n (length self.now.xb.now) }
+        ensures { result ≡ bit_xor (word_at 13 a self.now.xa.now 0 n) (word_at 13 b self.now.xb.now self.now.of.advance n) }
     {
-        let first = stretches::word_of(a, 13, &self.xa, 0, n);
-        let second = stretches::word_of(b, 13, &self.xb, self.of.advance as usize, n);
+        let ByTables { xa, xb, of, .. } = *self;
+        let first = stretches::word_of(a, 13, xa, 0, n);
+        let second = stretches::word_of(b, 13, xb, of.advance as usize, n);
         first ^ second
     }
 
     // Writes the chips of a run over a slice, in whole words, and the last of them in a part of a word. P's are written by a function of its own, which takes
-    // its delay line along, and C/A's by one that takes a word by other clauses: a closure for the word would have to state them.
-    #[tactic(auto, using(crate::proofs::Blocks::first_within, crate::proofs::Blocks::second_within))]
+    // its delay line along, and C/A's by one that takes a word by other clauses: a closure for the word would have to state them. `Fitting` and `Run` are
+    // clauses, for `stepped::Runs` tells them of each call's channel.
     fn write_run(&self, ch: Channel, out: &mut [u8])
         requires fitting { Fitting self.now.of.start ch }
         requires run { Run self.now.of.start (length out.old) ch }
@@ -100,7 +101,7 @@ impl ByTables<'_> {
     }
 }
 
-impl Runs for ByTables<'_> {
+impl Runs for ByTables {
     ghost signal = { λ tables prn. from_l5 tables.of.start };
 
     ghost is_run = { λ tables n ch. Run tables.of.start n ch };
@@ -125,17 +126,19 @@ impl Runs for ByTables<'_> {
     // Whether each register is the one of its phase. One for all signals would be handed each table and its stages.
     #[tactic(auto, using(crate::proofs::AlongL5::room_xa, crate::proofs::AlongL5::room_xb, crate::proofs::Blocks::last_xa, crate::proofs::Blocks::last_xb))]
     fn fitting(&self, ch: Channel) -> bool {
-        let first = stretches::fits(ch.first, &self.xa, 0, 13);
-        let second = stretches::fits(ch.second, &self.xb, self.of.advance as usize, 13);
+        let ByTables { xa, xb, of, .. } = *self;
+        let first = stretches::fits(ch.first, xa, 0, 13);
+        let second = stretches::fits(ch.second, xb, of.advance as usize, 13);
         first & second
     }
 
     #[tactic(auto, using(crate::proofs::Blocks::first_within, crate::proofs::Blocks::second_within))]
     fn go_along(&self, ch: Channel, out: &mut [u8]) -> Channel {
+        let ByTables { xa, xb, of, .. } = *self;
         let n = out.len();
         self.write_run(ch, out);
-        let first = stretches::after(ch.first, &self.xa, 0, 13, n);
-        let second = stretches::after(ch.second, &self.xb, self.of.advance as usize, 13, n);
+        let first = stretches::after(ch.first, xa, 0, 13, n);
+        let second = stretches::after(ch.second, xb, of.advance as usize, 13, n);
         plain_runs::move_by(ch, n, first, second)
     }
 
@@ -149,18 +152,15 @@ impl Runs for ByTables<'_> {
         )
     }
 
-    fn between() -> usize
-        ensures { 0 < result }
-    {
+    fn between() -> usize {
         stretches::AT_AN_EVENT
     }
 }
 
 // ---- the window
 
-// Writes the chips of a channel of I5 or Q5 over a slice, and gives the channel after them. `Of` is a clause, for no type of a channel knows its signal; the
-// table of digits is made once, in `windows`, and lent, for it is written anew wherever it is made.
-pub fn write(of: Start, ch: Channel, spread: &Spread, out: &mut [u8]) -> Channel
+// Writes the chips of a channel of I5 or Q5 over a slice, and gives the channel after them. `Of` is a clause, for no type of a channel knows its signal.
+pub fn write(of: Start, ch: Channel, out: &mut [u8]) -> Channel
     requires { Of (λ prn. from_l5 of.start) ch }
     ensures { WindowFrom ch out.old out.new result }
 {
@@ -168,7 +168,7 @@ pub fn write(of: Start, ch: Channel, spread: &Spread, out: &mut [u8]) -> Channel
         xa: XA::sequence(),
         xb: XB::sequence(),
         of,
-        spread,
+        spread: Spread::new(),
     };
     stepped::write_by_runs(&tables, ch, out)
 }

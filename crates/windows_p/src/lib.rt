@@ -1,5 +1,5 @@
 // Windows of P at memory speed: runs of chips in which no generator begins a cycle anew, is held or let go, added up from words of the generators'
-// tables, and single steps between them. A run needs each register to be the one of its phase, which is tested; other channels are stepped.
+// tables, and single steps between them. A run needs each register to be the one of its phase, which is tested; until it is, the channel is stepped.
 #![tactic(auto)]
 
 ghost use Rattle.std.specs.Prelude.{◌≡◌, true, ◌<◌, ◌≤◌, length};
@@ -16,20 +16,20 @@ use registers::{X1A, X1B, X2A, X2B};
 use sequences::Sequence;
 use stepped::{P, Runs};
 
-// The chips of the four generators.
+// The chips of the four generators. Each use takes the references out of it first: what a field refers to isn't lent on as a slice.
 #[derive(Drop)]
-struct ByTables<'a> {
-    x1a: [u64; 65],
-    x1b: [u64; 65],
-    x2a: [u64; 65],
-    x2b: [u64; 65],
-    spread: &'a Spread,
-    ghost tables: { Tables x1a x1b x2a x2b },
+struct ByTables {
+    x1a: &'static [u64; 65],
+    x1b: &'static [u64; 65],
+    x2a: &'static [u64; 65],
+    x2b: &'static [u64; 65],
+    spread: Spread,
+    ghost tables: { Tables x1a.now x1b.now x2a.now x2b.now },
 }
 
 // ---- a run
 
-// Two generators' next 64 chips from n steps on, added. L5's two have tables of their own and an advance: one for both would take eight arguments for one sum.
+// Two generators' next 64 chips from n steps on, added. L5's two have tables of their own and an advance: one for both would take seven arguments for one sum.
 fn both(a: Generator, ta: &[u64], b: Generator, tb: &[u64], n: usize) -> u64
     requires first_within { Within a 0 n (length ta.now) }
     requires second_within { Within b 0 n (length tb.now) }
@@ -40,7 +40,7 @@ fn both(a: Generator, ta: &[u64], b: Generator, tb: &[u64], n: usize) -> u64
     first ^ second
 }
 
-impl ByTables<'_> {
+impl ByTables {
     // Writes the chips of a run over a slice, in whole words, and the last of them in a part of a word, and gives the delay line after it. L5 has a function
     // like this: in P the delay line goes along from word to word, and L5 has none. `Fitting` and `Run` are clauses, for `stepped::Runs` tells them of each
     // call's channel.
@@ -50,13 +50,14 @@ impl ByTables<'_> {
         requires run { Run (length out.old) ch }
         ensures { (result ≡ line_along ch (length out.old)) × (out.new ≡ row (chip_along ch) (length out.old)) }
     {
+        let (x1a, x1b, x2a, x2b) = (self.x1a, self.x1b, self.x2a, self.x2b);
         let words = out.len() / 64;
         let mut line = ch.delay;
         // no `chunks_exact_mut`: its contract tells a proof the length alone of a slice that is written by its parts
         for word in 0..words {
             let i = word * 64;
-            let x1 = both(ch.first, &self.x1a, ch.second, &self.x1b, i);
-            let x2 = both(ch.third, &self.x2a, ch.fourth, &self.x2b, i);
+            let x1 = both(ch.first, x1a, ch.second, x1b, i);
+            let x2 = both(ch.third, x2a, ch.fourth, x2b, i);
             self.spread.write(
                 x1 ^ delay_lines::delayed(line, x2, ch.prn),
                 &mut out[i..i + 64],
@@ -68,15 +69,15 @@ impl ByTables<'_> {
         if k == 0 {
             return line;
         }
-        let x1 = both(ch.first, &self.x1a, ch.second, &self.x1b, i);
-        let x2 = both(ch.third, &self.x2a, ch.fourth, &self.x2b, i);
+        let x1 = both(ch.first, x1a, ch.second, x1b, i);
+        let x2 = both(ch.third, x2a, ch.fourth, x2b, i);
         self.spread
             .write(x1 ^ delay_lines::delayed(line, x2, ch.prn), &mut out[i..]);
         delay_lines::line_after(line, x2, k)
     }
 }
 
-impl Runs for ByTables<'_> {
+impl Runs for ByTables {
     ghost signal = { λ tables. signal_p };
 
     ghost is_run = { λ tables n ch. Run n ch };
@@ -101,24 +102,26 @@ impl Runs for ByTables<'_> {
     // Whether each register is the one of its phase. One for all signals would be handed each table and its stages.
     #[tactic(auto, using(crate::proofs::AlongP::rooms))]
     fn fitting(&self, ch: Channel) -> bool {
-        let first = stretches::fits(ch.first, &self.x1a, 0, 12);
-        let second = stretches::fits(ch.second, &self.x1b, 0, 12);
-        let third = stretches::fits(ch.third, &self.x2a, 0, 12);
-        let fourth = stretches::fits(ch.fourth, &self.x2b, 0, 12);
+        let (x1a, x1b, x2a, x2b) = (self.x1a, self.x1b, self.x2a, self.x2b);
+        let first = stretches::fits(ch.first, x1a, 0, 12);
+        let second = stretches::fits(ch.second, x1b, 0, 12);
+        let third = stretches::fits(ch.third, x2a, 0, 12);
+        let fourth = stretches::fits(ch.fourth, x2b, 0, 12);
         first & second & third & fourth
     }
 
     #[tactic(auto, using(crate::proofs::Blocks::first_within, crate::proofs::Blocks::second_within, crate::proofs::Blocks::third_within, crate::proofs::Blocks::fourth_within))]
     fn go_along(&self, ch: Channel, out: &mut [u8]) -> Channel {
+        let (x1a, x1b, x2a, x2b) = (self.x1a, self.x1b, self.x2a, self.x2b);
         let n = out.len();
         let delay = self.write_run(ch, out);
         Channel {
             place: ch.place + n as u64,
             delay,
-            first: stretches::after(ch.first, &self.x1a, 0, 12, n),
-            second: stretches::after(ch.second, &self.x1b, 0, 12, n),
-            third: stretches::after(ch.third, &self.x2a, 0, 12, n),
-            fourth: stretches::after(ch.fourth, &self.x2b, 0, 12, n),
+            first: stretches::after(ch.first, x1a, 0, 12, n),
+            second: stretches::after(ch.second, x1b, 0, 12, n),
+            third: stretches::after(ch.third, x2a, 0, 12, n),
+            fourth: stretches::after(ch.fourth, x2b, 0, 12, n),
             ..ch
         }
     }
@@ -127,18 +130,15 @@ impl Runs for ByTables<'_> {
         stepped::write(P, ch, out)
     }
 
-    fn between() -> usize
-        ensures { 0 < result }
-    {
+    fn between() -> usize {
         stretches::AT_AN_EVENT
     }
 }
 
 // ---- the window
 
-// Writes the chips of a channel of P over a slice, and gives the channel after them. `Of` is a clause, for no type of a channel knows its signal; the table
-// of digits is made once, in `windows`, and lent, for it is written anew wherever it is made.
-pub fn write(ch: Channel, spread: &Spread, out: &mut [u8]) -> Channel
+// Writes the chips of a channel of P over a slice, and gives the channel after them. `Of` is a clause, for no type of a channel knows its signal.
+pub fn write(ch: Channel, out: &mut [u8]) -> Channel
     requires { Of signal_p ch }
     ensures { WindowFrom ch out.old out.new result }
 {
@@ -147,7 +147,7 @@ pub fn write(ch: Channel, spread: &Spread, out: &mut [u8]) -> Channel
         x1b: X1B::sequence(),
         x2a: X2A::sequence(),
         x2b: X2B::sequence(),
-        spread,
+        spread: Spread::new(),
     };
     stepped::write_by_runs(&tables, ch, out)
 }

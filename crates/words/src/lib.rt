@@ -9,7 +9,7 @@ ghost use Rattle.words.specs.Words.{mode_word, generator_word, generators_word, 
 use arrayvec::ArrayVec;
 use machine::{Channel, Generator, Mode};
 
-// ---- words written: each behind what stands there, and its mark behind it
+// ---- words written: each behind what stands there, and its mark behind it. Room is asked for, and text appended, as `texts` says.
 
 #[tactic(auto, using(crate::proofs::Writing::running_put, crate::proofs::Writing::held_put))]
 fn put_mode<const N: usize>(mode: Mode, mark: u8, out: &mut ArrayVec<u8, N>)

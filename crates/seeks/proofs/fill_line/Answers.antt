@@ -33,7 +33,7 @@ loop-at-preserved c =
     let a = c.args in
     filled_next a.from l.at l.x2a l.x2b l.line (omega arith) (omega (arith, c.requires.place_in_week)) l.invariant
     c.step-x2a.result c.step-x2b.result c.next_line-line.result
-    (rw c.start.ensures at c.step-x2a.ensures) (rw c.start-in-loop-at.ensures at c.step-x2b.ensures) c.next_line-line.ensures
+    c.step-x2a.ensures c.step-x2b.ensures c.next_line-line.ensures
 
 pub returns : goal.returns
 returns c =

@@ -12,14 +12,14 @@ use Rattle.seeks.proofs.land_ca.Goals as goal
 
 pub seek-g2-requires : goal.seek-g2-requires
 seek-g2-requires c =
-    let few = counts_few g1 course_g c.args.place 0 10 c.seek-g1.result (rw c.start.ensures at c.seek-g1.ensures) (lit< tt) (lit≤ tt) in
-    record { start_in = rw c.start-2.ensures (lit< tt); asked = record { place_in = c.requires; count_in = omega (arith, few) } }
+    let few = counts_few g1 course_g c.args.place 0 10 c.seek-g1.result c.seek-g1.ensures (lit< tt) (lit≤ tt) in
+    record { start_in = lit< tt; asked = record { place_in = c.requires; count_in = omega (arith, few) } }
 
 pub returns : goal.returns
 returns c =
     let a = c.args in
-    let one = rw c.start.ensures at c.seek-g1.ensures in
-    let two = rw c.start-2.ensures at c.seek-g2.ensures in
+    let one = c.seek-g1.ensures in
+    let two = c.seek-g2.ensures in
     c.plain_at.ensures
     ∙ plain_landed_lem week_ca g1 g2 course_g course_g _ 1 a.prn.number a.place c.requires _ _ _
     (ap (λ (x : Counted Generator). x.value) one)

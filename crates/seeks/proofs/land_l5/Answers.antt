@@ -12,13 +12,13 @@ use Rattle.seeks.proofs.land_l5.Goals as goal
 
 pub seek-xb-requires : goal.seek-xb-requires
 seek-xb-requires c =
-    let few = counts_few xa course_xa c.args.place 0 13 c.seek-xa.result (rw c.start.ensures at c.seek-xa.ensures) (lit< tt) (lit≤ tt) in
+    let few = counts_few xa course_xa c.args.place 0 13 c.seek-xa.result c.seek-xa.ensures (lit< tt) (lit≤ tt) in
     record { start_in = c.requires.start_in_register; asked = record { place_in = c.requires.place_in_week; count_in = omega (arith, few) } }
 
 pub returns : goal.returns
 returns c =
     let a = c.args in
-    let one = rw c.start.ensures at c.seek-xa.ensures in
+    let one = c.seek-xa.ensures in
     c.plain_at.ensures
     ∙ plain_landed_lem week_l5 xa (xb a.start) course_xa course_xb _ _ a.prn.number a.place c.requires.place_in_week _ _ _
     (ap (λ (x : Counted Generator). x.value) one)

@@ -14,4 +14,4 @@ returns c =
     let listed : row < 37 = omega (arith, c.args.prn.listed.first, c.args.prn.listed.last) in
     let one = equal_at 37 (λ k. (slice_index_or STAGES k (0, 0)).0) (λ k. get_or stages_ca (k * 2) 0) tt row listed in
     let two = equal_at 37 (λ k. (slice_index_or STAGES k (0, 0)).1) (λ k. get_or stages_ca (k * 2 + 1) 0) tt row listed in
-    λ j. record { first = one j; second = two j }
+    rw c.row.ensures.row (λ j. record { first = one j; second = two j })

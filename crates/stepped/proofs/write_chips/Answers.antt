@@ -8,4 +8,4 @@ use Rattle.stepped.proofs.write_chips.Goals as goal
 pub write_here-requires-in-L2Cm-clause-of : goal.write_here-requires-in-L2Cm-clause-of
 write_here-requires-in-L2Cm-clause-of c =
     let ch = c.args.ch in
-    of_signal _ ch c.requires (ap (λ (n : ℕ). signal_of n ch.prn) (sym c.in-L2Cm.ensures) ∙ ap from_cm (sym c.of-in-L2Cm.ensures))
+    of_signal _ ch c.requires (ap (λ (n : ℕ). signal_of n ch.prn) (sym c.in-L2Cm.ensures) ∙ ap from_cm (sym (c.new.ensures ∙ c.start_cm.ensures)))

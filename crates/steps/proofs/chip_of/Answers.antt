@@ -8,4 +8,4 @@ use Rattle.steps.proofs.chip_of.Goals as goal
 pub returns-in-L2Cm : goal.returns-in-L2Cm
 returns-in-L2Cm c =
     let ch = c.args.ch.channel in
-    c.chip_l2.ensures ∙ sym (chip_is ch (is_cm ch.signal ch.prn (sym c.signal-signal.ensures ∙ ap number_of c.in-L2Cm.is)))
+    c.chip_l2.ensures ∙ sym (chip_is ch (is_cm ch.signal ch.prn (sym c.signal.ensures ∙ ap number_of c.in-L2Cm.is)))

@@ -9,4 +9,4 @@ pub returns : goal.returns
 returns c =
     let ch = c.args.ch in
     c.plain_step.ensures
-    ∙ plain_is (signal_ca ch.prn).week g1 g2 (signal_ca ch.prn).chip _ _ ch c.requires (rw c.start.ensures at c.step-first.ensures) (λ e. rw c.start-2.ensures at c.step-second.ensures)
+    ∙ plain_is (signal_ca ch.prn).week g1 g2 (signal_ca ch.prn).chip _ _ ch c.requires c.step-first.ensures (λ e. c.step-second.ensures)

@@ -9,4 +9,4 @@ pub returns : goal.returns
 returns c =
     let ch = c.args.ch in
     c.plain_step.ensures
-    ∙ plain_is (from_l5 c.args.start).week xa (xb c.args.start) chip_l5 _ _ ch c.requires (rw c.start.ensures at c.step-first.ensures) (λ e. c.step-second.ensures)
+    ∙ plain_is (from_l5 c.args.start).week xa (xb c.args.start) chip_l5 _ _ ch c.requires c.step-first.ensures (λ e. c.step-second.ensures)

@@ -8,9 +8,9 @@ use Rattle.steps.proofs.stepped.Goals as goal
 pub step_l2-requires : goal.step_l2-requires
 step_l2-requires c =
     let ch = c.args.ch.channel in
-    rw (c.start_cm.ensures, c.prn-prn.ensures) (fields_as ch (is_cm ch.signal ch.prn (sym c.signal-signal.ensures ∙ ap number_of c.in-L2Cm.is)) c.args.ch.ranged)
+    rw (c.start_cm.ensures, c.prn.ensures) (fields_as ch (is_cm ch.signal ch.prn (sym c.signal.ensures ∙ ap number_of c.in-L2Cm.is)) c.args.ch.ranged)
 
 pub returns-in-L2Cm : goal.returns-in-L2Cm
 returns-in-L2Cm c =
     let ch = c.args.ch.channel in
-    (rw (c.start_cm.ensures, c.prn-prn.ensures) at c.step_l2.ensures) ∙ sym (step_is ch (is_cm ch.signal ch.prn (sym c.signal-signal.ensures ∙ ap number_of c.in-L2Cm.is)))
+    (rw (c.start_cm.ensures, c.prn.ensures) at c.step_l2.ensures) ∙ sym (step_is ch (is_cm ch.signal ch.prn (sym c.signal.ensures ∙ ap number_of c.in-L2Cm.is)))

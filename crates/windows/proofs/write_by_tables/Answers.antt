@@ -8,4 +8,4 @@ use Rattle.windows.proofs.write_by_tables.Goals as goal
 pub write-requires-in-L2Cm : goal.write-requires-in-L2Cm
 write-requires-in-L2Cm c =
     let ch = c.args.ch in
-    of_signal _ ch c.requires (ap (λ (n : ℕ). signal_of n ch.prn) (sym c.in-L2Cm.ensures) ∙ ap from_cm (sym c.of-in-L2Cm.ensures))
+    of_signal _ ch c.requires (ap (λ (n : ℕ). signal_of n ch.prn) (sym c.in-L2Cm.ensures) ∙ ap from_cm (sym (c.new.ensures ∙ c.start_cm.ensures)))

@@ -6,4 +6,4 @@ use Rattle.windows_l5.proofs.Start.of_q5.Goals as goal
 
 pub invariant_of-result : goal.invariant_of-result
 unfolding advances_q5
-invariant_of-result c = record { advanced = rw c.start_q5.ensures (advanced_q5 c.args.prn.number c.args.prn.listed) }
+invariant_of-result c = record { advanced = rw (c.start_q5.ensures, c.row.ensures.row) (advanced_q5 c.args.prn.number c.args.prn.listed) }

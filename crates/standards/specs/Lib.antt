@@ -1,0 +1,2 @@
+-- What the contracts of `standards` cite.
+pub mod Cells
