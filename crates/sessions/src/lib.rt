@@ -6,6 +6,7 @@ ghost use Rattle.arrayvec.specs.ArrayVec.{array_vec_len};
 ghost use Rattle.commands.specs.Commands.{command_of};
 ghost use Rattle.sessions.specs.Sessions.{Talk as Standing, answer_of, last_of, talk, course};
 ghost use Rattle.sessions.specs.Laws.{laws};
+ghost use Rattle.answer_lines.specs.declared.TheConstants.{ROOM as longest};
 
 use answer_lines::ROOM;
 use arrayvec::ArrayVec;
@@ -23,7 +24,7 @@ pub const KEPT: usize = 1024;
 #[derive(Clone, Copy, Debug, PartialEq, Eq)]
 pub struct Console<'a> {
     pub help: &'a [u8],
-    ghost brief: { length help.now ≤ 66048 },
+    ghost brief: { length help.now ≤ longest },
 }
 
 // A session remembers from line to line what `.` stands for: nothing, before any open was accepted.
@@ -75,9 +76,9 @@ impl<'a> Talk<KEPT> for Console<'a> {
 
     ghost course = { λ console. course console.help.now };
 
-    ghost room = { 66048 };
+    ghost room = { longest };
 
-    ghost last_room = { 66048 };
+    ghost last_room = { longest };
 
     ghost laws = { λ console. laws console.help.now };
 

@@ -4,6 +4,7 @@
 ghost use Rattle.std.specs.Prelude.{ℕ, List};
 ghost use Rattle.streams.specs.Stream.{course};
 ghost use Rattle.streams.specs.Laws.{laws};
+ghost use Rattle.lines.specs.declared.TheConstants.{ROOM as longest};
 
 use arrayvec::ArrayVec;
 use line_programs::{Answers, Dialog, Talk};
@@ -28,7 +29,7 @@ impl Talk<KEPT> for Replies {
 
     ghost course = { λ _. course };
 
-    ghost room = { 128 };
+    ghost room = { longest };
 
     ghost last_room = { 10 };
 
