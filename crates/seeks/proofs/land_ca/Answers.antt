@@ -18,10 +18,8 @@ seek-g2-requires c =
 pub returns : goal.returns
 returns c =
     let a = c.args in
-    let one = c.seek-g1.ensures in
-    let two = c.seek-g2.ensures in
     c.plain_at.ensures
     ∙ plain_landed_lem week_ca g1 g2 course_g course_g _ 1 a.prn.number a.place c.requires _ _ _
-    (ap (λ (x : Counted Generator). x.value) one)
-    (ap (λ (x : Counted Generator). x.value) two)
-    (omega (arith, ap (λ (x : Counted Generator). x.count) one, ap (λ (x : Counted Generator). x.count) two))
+    (ap (λ (x : Counted Generator). x.value) c.seek-g1.ensures)
+    (ap (λ (x : Counted Generator). x.value) c.seek-g2.ensures)
+    (omega (arith, ap (λ (x : Counted Generator). x.count) c.seek-g1.ensures, ap (λ (x : Counted Generator). x.count) c.seek-g2.ensures))

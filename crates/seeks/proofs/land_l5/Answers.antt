@@ -18,9 +18,8 @@ seek-xb-requires c =
 pub returns : goal.returns
 returns c =
     let a = c.args in
-    let one = c.seek-xa.ensures in
     c.plain_at.ensures
     ∙ plain_landed_lem week_l5 xa (xb a.start) course_xa course_xb _ _ a.prn.number a.place c.requires.place_in_week _ _ _
-    (ap (λ (x : Counted Generator). x.value) one)
+    (ap (λ (x : Counted Generator). x.value) c.seek-xa.ensures)
     (ap (λ (x : Counted Generator). x.value) c.seek-xb.ensures)
-    (omega (arith, ap (λ (x : Counted Generator). x.count) one, ap (λ (x : Counted Generator). x.count) c.seek-xb.ensures))
+    (omega (arith, ap (λ (x : Counted Generator). x.count) c.seek-xa.ensures, ap (λ (x : Counted Generator). x.count) c.seek-xb.ensures))
