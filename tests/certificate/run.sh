@@ -5,13 +5,14 @@
 #
 # A citation is a part in backticks of one of these forms; whatever else stands in backticks is no citation.
 #
-#     FILE: NAME, NAME   a file and names that it declares
+#     FILE: NAME, NAME   a file and names that it declares; in a .rt file NAME may be FUNCTION.CLAUSE, a clause of what the function ensures
 #     FILE               a file or a folder
 #     CRATE/EDIT         crates/CRATE/must-fail/EDIT.edit
 #     .. ≡ ..            a promise, which stands so in a file that the same row cites
 #
 # A FILE is looked for under crates/ and then from the root of the repository. Each row of a table has to cite something, and each edit of the repository has
-# to be cited. Where a program was proved here, what it assumes is compared with what rt said of it.
+# to be cited. A promise is what a function ensures: where a table has a column "promise", no proof is cited there. Where a program was proved here, what it
+# assumes is compared with what rt said of it.
 set -eu
 
 cd "$(dirname "$0")/../.."
@@ -30,9 +31,21 @@ found() {
     if [ -e "crates/$1" ]; then echo "crates/$1"; elif [ -e "$1" ]; then echo "$1"; else return 1; fi
 }
 
+# ensures FILE FUNCTION CLAUSE: whether a function of that name has an `ensures` of that name between its head and its body.
+ensures() {
+    awk -v function_name="$2" -v clause="$3" '
+        $0 ~ "(^| )fn " function_name "[(<]" { inside = 1 }
+        inside && $0 ~ "^ *ensures " clause " [{]" { found = 1 }
+        inside && (/^ *[{]/ || /;$/) { inside = 0 }
+        END { exit !found }' "$1"
+}
+
 # declares FILE NAME: whether the file has a declaration of that name.
 declares() {
     local name=${2//./\\.}
+    case $1:$2 in
+        *.rt:*.*) ensures "$1" "${2%%.*}" "${2#*.}"; return ;;
+    esac
     case $1 in
         # a definition, a theorem, a field or a constructor, with its type; a record or a data type
         *.antt) grep -qE "^ *((pub|abbrev|unfoldable) )*$name : |^(pub )?(record|data) $name( |$)" "$1" ;;
