@@ -1,6 +1,8 @@
 // The channel of the stepped machine, by value. `specs/` says what it is: Generators, Signals and Machine, in this order.
 #![tactic(auto)]
 
+ghost use Rattle.machine.specs.RangeLaw.{OpenedInRange, SteppedInRange, ReachedInRange};
+
 // Running, or held with a number of chips still to repeat.
 #[derive(Clone, Copy, Debug, PartialEq, Eq)]
 pub enum Mode {
@@ -83,3 +85,11 @@ pub const LAST_CL: u32 = 767_249;
 pub const HIGHEST_XA: u32 = 1;
 
 pub const HIGHEST_XB: u32 = 1;
+
+// A law, with no code: the range law. An opened channel of any signal and PRN is in range, and every step of a channel in range leaves it there.
+#[tactic(auto, using(crate::proofs::RangeLaw::opened_in, crate::proofs::RangeLaw::step_in_lem, crate::proofs::RangeLaw::reached_in))]
+pub fn range_law()
+    ensures opened { OpenedInRange }
+    ensures stepped { SteppedInRange }
+    ensures reached { ReachedInRange }
+{}

@@ -20,8 +20,8 @@ use Rattle.machine.specs.declared.Channel.{Channel}
 use Rattle.machine.proofs.Running.{lacking_stays}
 use Rattle.digits.specs.Digits.{row}
 use Rattle.stretches.specs.Stretches.{stretch_in, stretch}
-use Rattle.stretches.proofs.LawOfRuns.{Goes}
-use Rattle.stretches.proofs.Along.{Along, at_is, chips_are}
+use Rattle.stretches.specs.LawOfRuns.{Goes, Along}
+use Rattle.stretches.proofs.Along.{at_is, chips_are}
 use Rattle.plain_runs.specs.Inner.{moved_by}
 
 -- ---- a generator that is never held

@@ -5,6 +5,7 @@ ghost use Rattle.std.specs.Prelude.{◌≡◌, ℕ, ◌<◌};
 ghost use Rattle.starts.specs.Starts.{start_g1, start_g2, start_xa, start_x1a, start_x1b, start_x2a, start_x2b};
 ghost use Rattle.starts.specs.Prns.{TakesPrn};
 ghost use Rattle.starts.specs.Starts.{stages_of, start_cm, start_cl, start_i5, start_q5};
+ghost use Rattle.starts.specs.PrintedVectors.{VectorsOfI5, VectorsOfQ5};
 
 use refusals::Refusal;
 use registers::{G1, G2, Register, X1A, X1B, X2A, X2B, XA};
@@ -114,7 +115,7 @@ pub fn start_cl(prn: Prn) -> u32
 }
 
 // The start of XB of I5 for a PRN.
-#[tactic(auto, using(crate::proofs::PrintedVectors::vector_i5), unfolding(crate::proofs::PrintedVectors::turned, crate::proofs::PrintedVectors::vectors_i5))]
+#[tactic(auto, using(crate::proofs::PrintedVectors::vector_i5), unfolding(crate::specs::PrintedVectors::turned, crate::specs::PrintedVectors::vectors_i5))]
 pub fn start_i5(prn: Prn) -> u32
     ensures { result ≡ start_i5 prn.number }
 {
@@ -122,9 +123,16 @@ pub fn start_i5(prn: Prn) -> u32
 }
 
 // The start of XB of Q5 for a PRN.
-#[tactic(auto, using(crate::proofs::PrintedVectors::vector_q5), unfolding(crate::proofs::PrintedVectors::turned, crate::proofs::PrintedVectors::vectors_q5))]
+#[tactic(auto, using(crate::proofs::PrintedVectors::vector_q5), unfolding(crate::specs::PrintedVectors::turned, crate::specs::PrintedVectors::vectors_q5))]
 pub fn start_q5(prn: Prn) -> u32
     ensures { result ≡ start_q5 prn.number }
 {
     tables::Q5[prn.row()]
 }
+
+// A law, with no code: XB's starts, which are the advances of IS-GPS-705, Table 3-I, are the vectors printed beside them, in every row.
+#[tactic(auto, using(crate::proofs::PrintedVectors::vector_i5, crate::proofs::PrintedVectors::vector_q5))]
+pub fn printed_vectors()
+    ensures i5 { VectorsOfI5 }
+    ensures q5 { VectorsOfQ5 }
+{}

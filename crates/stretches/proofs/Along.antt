@@ -14,14 +14,14 @@ use lib.Dec.{eqb, ltb}
 use borrow.Author.Tests.{lt-ltb, ne_eqb}
 use Rattle.machine.specs.Generators.{up_to}
 use Rattle.machine.specs.Signals.{Signal, signal_of}
-use Rattle.machine.specs.Machine.{next_epoch, at_week_end, next_line, step_with, step_as, step, chip, advance, chips}
+use Rattle.machine.specs.Machine.{next_epoch, at_week_end, step_with, step_as, step, chip, advance, chips}
 use Rattle.machine.specs.declared.Generator.{Generator}
 use Rattle.machine.specs.declared.Channel.{Channel}
 use Rattle.machine.proofs.Advance.{advance_none, advance_last}
 use Rattle.machine.proofs.Chips.{chips-add}
 use Rattle.machine.proofs.Numbered.{step_is, chip_is}
 use Rattle.digits.specs.Digits.{row}
-use Rattle.stretches.proofs.LawOfRuns.{Goes}
+use Rattle.stretches.specs.LawOfRuns.{Along, along_at, ChannelGoesAlong, ChipsAlong}
 
 -- cycles that stay have not returned to 0
 pub same_epoch : (last c epoch : ℕ) → epoch ≡ cond (ltb 0 c && eqb c 0) (up_to last epoch) epoch
@@ -39,34 +39,11 @@ chips_row ch x (suc n) each =
     ∙ chips-add n 1 ch
     ∙ ap₂ (λ (l : List ℕ) (b : ℕ). l ++ (b ∷ [])) (chips_row ch x n (λ j h. each j (omega (arith, h)))) (each n (omega arith))
 
--- how a channel of a signal goes for n steps: its generators, of which the first stays in its cycle, and its delay line
-pub record Along (s : Signal) (n : ℕ) (ch : Channel) (first second third fourth : ℕ → Generator) (line : ℕ → ℕ) : Type 0 where
-  pub first_goes : Goes s.first n ch.first first
-  pub second_goes : Goes s.second n ch.second second
-  pub third_goes : Goes s.third n ch.third third
-  pub fourth_goes : Goes s.fourth n ch.fourth fourth
-  pub one_cycle : (j : ℕ) → (first j).cycles ≡ ch.first.cycles
-  pub line_starts : line 0 ≡ ch.delay
-  pub line_goes : (j : ℕ) → j < n → next_line s.line_bits (third j).register (fourth j).register (line j) ≡ line (suc j)
-  pub in_week : ch.place + n < s.week
-
 module _ (s : Signal) (n : ℕ) (ch : Channel) (first second third fourth : ℕ → Generator) (line : ℕ → ℕ)
     (named : signal_of ch.signal ch.prn ≡ s) (along : Along s n ch first second third fourth line)
   where
-    -- the channel j steps on
-    abbrev pub at : ℕ → Channel
-    at j =
-        record {
-          signal = ch.signal;
-          prn = ch.prn;
-          place = ch.place + j;
-          epoch = ch.epoch;
-          delay = line j;
-          first = first j;
-          second = second j;
-          third = third j;
-          fourth = fourth j;
-        }
+    abbrev at : ℕ → Channel
+    at = along_at ch first second third fourth line
 
     at_start : at 0 ≡ ch
     at_start i =
@@ -124,10 +101,16 @@ module _ (s : Signal) (n : ℕ) (ch : Channel) (first second third fourth : ℕ 
         ∙ ap (λ (e : ℕ). step_with s (first (suc j)) e (at j)) epoch
         ∙ moved ch.epoch
 
-    pub at_is : (j : ℕ) → j ≤ n → advance j ch ≡ at j
-    at_is zero h = advance_none ch ∙ sym at_start
-    at_is (suc j) h =
-        advance_last j ch ∙ ap step (at_is j (omega (arith, h))) ∙ step_is (at j) named ∙ at_next j (omega (arith, h))
+    there : (j : ℕ) → j ≤ n → advance j ch ≡ at j
+    there zero h = advance_none ch ∙ sym at_start
+    there (suc j) h =
+        advance_last j ch ∙ ap step (there j (omega (arith, h))) ∙ step_is (at j) named ∙ at_next j (omega (arith, h))
 
-    pub chips_are : (j : ℕ) → j ≤ n → chips j ch ≡ row (λ i. s.chip (at i)) j
-    chips_are j h = chips_row ch (λ i. s.chip (at i)) j (λ i l. ap chip (at_is i (omega (arith, h, l))) ∙ chip_is (at i) named)
+pub at_is : ChannelGoesAlong
+at_is = there
+
+pub chips_are : ChipsAlong
+chips_are s n ch first second third fourth line named along j h =
+    let at = along_at ch first second third fourth line in
+    chips_row ch (λ i. s.chip (at i)) j
+    (λ i l. ap chip (at_is s n ch first second third fourth line named along i (omega (arith, h, l))) ∙ chip_is (at i) named)

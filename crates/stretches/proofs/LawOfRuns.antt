@@ -25,15 +25,10 @@ use Rattle.machine.specs.declared.Mode.{Mode}
 use Rattle.machine.specs.declared.Mode.TheVariants.{Running, Held}
 use Rattle.machine.specs.declared.Generator.{Generator}
 use Rattle.sequences.specs.Sequences.{word_in, Tells}
-use Rattle.stretches.specs.Stretches.{stretch_in, stretch, ahead_by, Fits, all, word_of, word_at, Within, Tabled}
-use Rattle.stretches.proofs.Arrivals.{RunsOn}
+use Rattle.stretches.specs.Stretches.{stretch_in, stretch, ahead_by, all, word_of, Within, Tabled}
+use Rattle.stretches.specs.LawOfRuns.{RunsOn, GoesAhead, ChipsOfTable}
 
 -- ---- steps
-
--- the generators that n steps of a kind go through, whatever X1A does
-pub record Goes (k : Kind) (n : ℕ) (g : Generator) (f : ℕ → Generator) : Type 0 where
-  pub starts : f 0 ≡ g
-  pub steps : (e : Bool) (j : ℕ) → j < n → step_generator k e (f j) ≡ f (suc j)
 
 module _ (k : Kind) (on : RunsOn k) where
   begins : (m : Mode) (r p c : ℕ)
@@ -56,12 +51,12 @@ module _ (k : Kind) (on : RunsOn k) where
       let less : h₀ - j - 1 ≡ h₀ - suc j = omega arith in
       simp (ne_eqb (h₀ - j) 0 some) (ap (λ (x : ℕ). record { register = r; phase = p; cycles = c; mode = Held x }) less)
 
-  pub goes : (n : ℕ) (g : Generator) → n ≤ stretch (k.last g.cycles) g → Goes k n g (ahead_by k g)
-  goes n g h =
-      record {
-        starts = begins g.mode g.register g.phase g.cycles;
-        steps = λ e j l. moves g.mode g.register g.phase g.cycles n j e h l;
-      }
+pub goes : GoesAhead
+goes k on n g h =
+    record {
+      starts = begins k on g.mode g.register g.phase g.cycles;
+      steps = λ e j l. moves k on g.mode g.register g.phase g.cycles n j e h l;
+    }
 
 -- ---- chips
 
@@ -87,9 +82,8 @@ module _ (seq : List ℕ) (from s : ℕ) (k : Kind) (last : ℕ) (t : Tabled seq
       ∙ ap (times f (n + i)) (sym fit))
   in-mode (Held h) r p c n fit room i l = all_tells (stage s r) (stage-lt s r) i l
 
-  pub law_of_runs : (g : Generator) (n : ℕ) → Fits k g → (g.mode ≡ Running → g.phase + n ≤ last)
-      → Tells (word_at s g seq from n) 64 (λ i. stage s (ahead_by k g (n + i)).register)
-  law_of_runs g n fit room = in-mode g.mode g.register g.phase g.cycles n fit room
+pub law_of_runs : ChipsOfTable
+law_of_runs seq from s k last t g n fit room = in-mode seq from s k last t g.mode g.register g.phase g.cycles n fit room
 
 -- ---- where the words stand
 

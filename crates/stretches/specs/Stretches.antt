@@ -1,4 +1,4 @@
--- A stretch of a generator, for the contracts of inner functions: `proofs/LawOfRuns.antt` shows it to be so many steps of the machine's.
+-- A stretch of a generator, for the contracts of inner functions: `LawOfRuns` says that it is so many steps of the machine's.
 -- Assumes nothing.
 use Rattle.std.specs.Prelude.{ℕ, ◌+◌, ◌-◌, ◌*◌, ◌/◌, ◌<◌, ◌≤◌, ◌^◌, ◌≡◌, List, length}
 use Rattle.registers.specs.Times.{times}

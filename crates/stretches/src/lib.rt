@@ -1,10 +1,11 @@
 // A stretch of one generator: steps in which it neither begins a cycle anew nor is held or let go. It shifts all along, and its chips stand in its
-// table one behind the other; or it is held all along, and gives the same chip. `proofs/LawOfRuns.antt` says so once for every generator.
+// table one behind the other; or it is held all along, and gives the same chip. `law_of_runs` says so once for every generator.
 #![tactic(auto)]
 
 ghost use Rattle.std.specs.Prelude.{◌≡◌, ◌+◌, ◌-◌, ◌/◌, ◌<◌, ◌≤◌, ◌^◌, length, eqb};
 ghost use Rattle.sequences.specs.Sequences.{word_in};
 ghost use Rattle.stretches.specs.Stretches.{stretch, Within, word_at, ahead};
+ghost use Rattle.stretches.specs.LawOfRuns.{GoesAhead, ChipsOfTable, ChannelGoesAlong, ChipsAlong};
 
 use machine::{Generator, Mode};
 
@@ -73,3 +74,15 @@ pub fn after(g: Generator, sequence: &[u64], from: usize, width: u32, n: usize) 
         },
     }
 }
+
+// ---- a law, with no code
+
+// The law of runs, for any generator and any signal: so many steps as a stretch has bring a generator ahead, its chips are those of its table, or the same
+// chip all along, and a channel whose generators go so is there after each step, with those chips.
+#[tactic(auto, using(crate::proofs::LawOfRuns::law_of_runs, crate::proofs::Along::chips_are))]
+pub fn law_of_runs()
+    ensures generator { GoesAhead }
+    ensures chips_of_table { ChipsOfTable }
+    ensures channel { ChannelGoesAlong }
+    ensures chips_along { ChipsAlong }
+{}

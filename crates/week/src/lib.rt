@@ -6,6 +6,7 @@ ghost use Rattle.std.specs.Prelude.{◌≡◌, ◌+◌, ◌*◌, ◌<◌, ◌^�
 ghost use Rattle.machine.specs.Signals.{week_l5};
 ghost use Rattle.week.specs.Week.{unheld, held, course_g, course_x1a, course_x1b, course_x2a, course_x2b, course_cm, course_cl, course_xa, course_xb};
 ghost use Rattle.week.specs.declared.Course.{Course};
+ghost use Rattle.week.specs.LawOfTheWeek.{EveryPlace, WeekPasses, LastStep};
 ghost use Rattle.week.specs.Coursed.{fitting};
 
 use generators::{Cl, Cm, Code};
@@ -198,3 +199,14 @@ impl Coursed for XB {
         cut_course::<XB>()
     }
 }
+
+// ---- a law, with no code
+
+// The law of the week, for every signal and PRN: where each field of the stepped machine stands after any number of steps from the opened channel, and that a
+// week of steps brings the opened channel back.
+#[tactic(auto, using(crate::proofs::LawOfTheWeek::law_of_the_week, crate::proofs::LawOfTheWeek::week_passes, crate::proofs::LawOfTheWeek::last_step))]
+pub fn law_of_the_week()
+    ensures every_place { EveryPlace }
+    ensures week_passes { WeekPasses }
+    ensures last_step { LastStep }
+{}

@@ -26,7 +26,8 @@ use Rattle.digits.specs.Digits.{row}
 use Rattle.stretches.specs.Stretches.{ahead, ahead_by}
 use Rattle.stretches.proofs.Arrivals.{x1b_runs_on, x2a_runs_on, x2b_runs_on}
 use Rattle.stretches.proofs.LawOfRuns.{goes}
-use Rattle.stretches.proofs.Along.{Along, at, at_is, chips_are}
+use Rattle.stretches.specs.LawOfRuns.{Along, along_at}
+use Rattle.stretches.proofs.Along.{at_is, chips_are}
 use Rattle.stretches.proofs.Tables.{table_length, after_is, fits_is}
 use Rattle.stepped.specs.Inner.{Of}
 use Rattle.windows_p.specs.Runs.{Tables, Fitting, Run, chip_x2, line_along, chip_along}
@@ -48,7 +49,7 @@ module _ (n : ℕ) (ch : Channel) (run : Run n ch) where
 
   module _ (of : Of signal_p ch) where
     abbrev there : ℕ → Channel
-    there = at (signal_p ch.prn) n ch (ahead_by x1a ch.first) (ahead_by x1b ch.second) (ahead_by x2a ch.third) (ahead_by x2b ch.fourth) (line_along ch) of.named along
+    there = along_at ch (ahead_by x1a ch.first) (ahead_by x1b ch.second) (ahead_by x2a ch.third) (ahead_by x2b ch.fourth) (line_along ch)
 
     run_advance : advance n ch ≡ there n
     run_advance =

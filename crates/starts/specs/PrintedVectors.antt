@@ -1,0 +1,33 @@
+-- XB's start vectors as IS-GPS-705, Table 3-I, prints them, stage 13 at the RIGHT, and that each is its row's advance from all ones: vector and advance
+-- differ in no row.
+-- Assumes nothing.
+use Rattle.std.specs.Prelude.{ℕ, zero, suc, ◌+◌, ◌*◌, ◌/◌, ◌%◌, ◌^◌, ◌≡◌, List, [], ◌∷◌, map}
+use Rattle.starts.specs.Starts.{Listed, entry_of, start_i5, start_q5}
+
+unfoldable pub vectors_i5 : List ℕ
+vectors_i5 =
+    0b0101011100100 ∷ 0b1100000110101 ∷ 0b0100000001000 ∷ 0b1011000100110 ∷ 0b1110111010111 ∷ 0b0110011111010 ∷ 0b1010010011111 ∷ 0b1011110100100 ∷
+    0b1111100101011 ∷ 0b0111111011110 ∷ 0b0000100111010 ∷ 0b1110011111001 ∷ 0b0001110011100 ∷ 0b0100000100111 ∷ 0b0110101011010 ∷ 0b0001111001001 ∷
+    0b0100110001111 ∷ 0b1111000011110 ∷ 0b1100100011111 ∷ 0b0110101101101 ∷ 0b0010000001000 ∷ 0b1110111101111 ∷ 0b1000011111110 ∷ 0b1100010110100 ∷
+    0b1101001101101 ∷ 0b1010110010110 ∷ 0b0101011011110 ∷ 0b0111101010110 ∷ 0b0101111100001 ∷ 0b1000010110111 ∷ 0b0001010011110 ∷ 0b0000010111001 ∷
+    0b1101010000001 ∷ 0b1101111111001 ∷ 0b1111011011100 ∷ 0b1001011001000 ∷ 0b0011010010000 ∷ []
+
+unfoldable pub vectors_q5 : List ℕ
+vectors_q5 =
+    0b1001011001100 ∷ 0b0100011110110 ∷ 0b1111000100011 ∷ 0b0011101101010 ∷ 0b0011110110010 ∷ 0b0101010101001 ∷ 0b1111110000001 ∷ 0b0110101101000 ∷
+    0b1011101000011 ∷ 0b0010010000110 ∷ 0b0001000000101 ∷ 0b0101011000101 ∷ 0b0100110100101 ∷ 0b1010000111111 ∷ 0b1011110001111 ∷ 0b1101001011111 ∷
+    0b1110011001000 ∷ 0b1011011100100 ∷ 0b0011001011011 ∷ 0b1100001110001 ∷ 0b0110110010000 ∷ 0b0010110001110 ∷ 0b1000101111101 ∷ 0b0110111110011 ∷
+    0b0100010011011 ∷ 0b0101010111100 ∷ 0b1000011111010 ∷ 0b1111101000010 ∷ 0b0101000100100 ∷ 0b1000001111001 ∷ 0b0101111100101 ∷ 0b1001000101010 ∷
+    0b1011001000100 ∷ 0b1111001000100 ∷ 0b0110010110011 ∷ 0b0011110101111 ∷ 0b0010011010001 ∷ []
+
+-- a vector of n digits with its last stage at the right, as a register
+unfoldable pub turned : ℕ → ℕ → ℕ
+turned zero v = 0
+turned (suc n) v = v % 2 * 2 ^ n + turned n (v / 2)
+
+-- the start of I5's XB for a PRN, which is an advance, is the PRN's vector; and of Q5's
+abbrev pub VectorsOfI5 : Type 0
+VectorsOfI5 = (prn : ℕ) → Listed 37 prn → start_i5 prn ≡ entry_of (map (turned 13) vectors_i5) prn
+
+abbrev pub VectorsOfQ5 : Type 0
+VectorsOfQ5 = (prn : ℕ) → Listed 37 prn → start_q5 prn ≡ entry_of (map (turned 13) vectors_q5) prn
