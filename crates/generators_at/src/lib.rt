@@ -5,7 +5,7 @@ ghost use Rattle.std.specs.Prelude.{◌≡◌, ◌<◌, ◌≤◌, ◌^◌};
 ghost use Rattle.week.specs.Standing.{on, in_period, standing_at};
 ghost use Rattle.generators_at.specs.Inner.{Fits, placed_as, brought, Asked};
 
-use leaps::Counted;
+use leaps::{Counted, Leaps};
 use machine::{Generator, Mode};
 use week::{Course, Coursed, Standing};
 
@@ -73,7 +73,7 @@ fn placed(at: Standing, register: Counted<u32>) -> Counted<Generator>
 
 // A generator at a place of its week, brought there by leaps from its start, which may depend on the PRN. The count goes on from the leaps made before. That a
 // start is one of the register's is a clause here and in `seeks`: it comes as a number, from a constant or a table.
-pub fn seek<C: Coursed>(start: u32, place: u64, count: u32) -> Counted<Generator>
+pub fn seek<C: Coursed>(start: u32, place: u64, count: Leaps) -> Counted<Generator>
     requires start_in { start < 2 ^ C.kind.width }
     requires asked { Asked C.course.week place count }
     ensures { result ≡ brought (record C.kind { start = start }) C.course place count }

@@ -1,9 +1,8 @@
 -- A right table of leaps.
 -- Assumes nothing.
-use Rattle.std.specs.Prelude.{ℕ, ◌≤◌, ◌≡◌, List}
-use Rattle.std.proofs.Math.Dec.{T}
+use Rattle.std.specs.Prelude.{ℕ, ◌≤◌, ◌≡◌, true, List}
 use Rattle.leaps.specs.Leaps.{rows_of}
-use Rattle.leaps.proofs.LawOfLeaps.{rule}
+use Rattle.leaps.specs.Rule.{rule}
 
 -- the table of a register of so many stages, with a row for each binary digit of a phase
 pub record TableOf (stages digits : ℕ) (shift : ℕ → ℕ) (width : ℕ) (entries : List ℕ) : Type 0 where
@@ -11,4 +10,4 @@ pub record TableOf (stages digits : ℕ) (shift : ℕ → ℕ) (width : ℕ) (en
   pub rows_are : rows_of width entries ≡ digits
   pub few : rows_of width entries ≤ 20
   -- its first row is one shift of each stage, and each next row is the row above applied twice
-  pub right : T (rule shift (rows_of width entries) width entries)
+  pub right : rule shift (rows_of width entries) width entries ≡ true

@@ -5,7 +5,7 @@ use native.Mathlib.Omega.{arith}
 use lib.Dec.{lit<, lit≤}
 use Rattle.machine.specs.Signals.{week_ca, g1, g2}
 use Rattle.week.specs.Week.{course_g}
-use Rattle.leaps.specs.declared.Counted.{Counted}
+use Rattle.leaps.specs.declared.rows.Counted.{Counted}
 use Rattle.machine.specs.declared.Generator.{Generator}
 use Rattle.seeks.proofs.Landing.{counts_few, plain_landed_lem}
 use Rattle.seeks.proofs.land_ca.Goals as goal

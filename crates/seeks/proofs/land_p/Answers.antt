@@ -5,7 +5,7 @@ use native.Mathlib.Omega.{arith}
 use lib.Dec.{lit<, lit≤}
 use Rattle.machine.specs.Signals.{x1a, x1b, x2a}
 use Rattle.week.specs.Week.{course_x1a, course_x1b, course_x2a}
-use Rattle.leaps.specs.declared.Counted.{Counted}
+use Rattle.leaps.specs.declared.rows.Counted.{Counted}
 use Rattle.machine.specs.declared.Generator.{Generator}
 use Rattle.seeks.proofs.Landing.{counts_few, p_landed}
 use Rattle.seeks.proofs.land_p.Goals as goal

@@ -5,7 +5,7 @@ use mathlib.Core.Path.{subst⁻¹}
 use Rattle.std.specs.Int.Count.{ones}
 use Rattle.std.specs.Slice.Iter.{chunks_exact_rest}
 use Rattle.leaps.specs.Leaps.{leaps, rows_of}
-use Rattle.leaps.specs.declared.Counted.{Counted}
+use Rattle.leaps.specs.declared.rows.Counted.{Counted}
 use Rattle.leaps.proofs.Turns.{Still, no_rows, still_one, still_none, still_last}
 use Rattle.leaps.proofs.Table.leap_to.Goals as goal
 use Rattle.leaps.proofs.Table.leap_to.Goals.{then-digits-eq1, else-digits-eq1}
