@@ -249,15 +249,34 @@ same_list() {
     numbers=$((numbers + $(wc -l <"$out/printed")))
 }
 
-lists=0 numbers=0
+# same_vector FILE NAME CODE: the number is the vector that Table 3-VII prints for a code's 1st chip following the epoch. Of two rows the first is whole.
+same_vector() {
+    local file=$1 name=$2 code=$3 wanted
+    wanted=$(awk -F '\t' -v code="$code" '
+        NR == 1 { for (i = 1; i <= NF; i++) column[$i] = i; next }
+        $column["code"] == code { print $column["vector_state_after_epoch"]; exit }' tests/tables/table_3-VII.tsv)
+    [ "${#wanted}" -eq 12 ] || fail "tests/tables/table_3-VII.tsv has no vector of $code"
+    grep -qxF "$name = 0b$wanted" "crates/$file" || fail "crates/$file, $name: not $wanted, which tests/tables/table_3-VII.tsv has for $code"
+    vectors=$((vectors + 1))
+}
+
+lists=0 numbers=0 vectors=0
 same_list starts/specs/Starts.antt stages_ca table_3-Ia.tsv tap1 tap2
-same_list standard/specs/Standard.antt code_delays table_3-Ia.tsv ca_delay
+same_list standard/specs/Tables.antt code_delays table_3-Ia.tsv ca_delay
 same_list starts/specs/Starts.antt starts_cm table_3-IIa.tsv cm_start_octal
 same_list starts/specs/Starts.antt starts_cl table_3-IIa.tsv cl_start_octal
-same_list known_places/proofs/EndStates.antt ends_cm table_3-IIa.tsv cm_end_octal
-same_list known_places/proofs/EndStates.antt ends_cl table_3-IIa.tsv cl_end_octal
-same_list starts/specs/Starts.antt advances_i5 table_705_3-I.tsv i5_advance
-same_list starts/specs/Starts.antt advances_q5 table_705_3-I.tsv q5_advance
+same_list standard/specs/Tables.antt states_cm table_3-IIa.tsv cm_start_octal
+same_list standard/specs/Tables.antt states_cl table_3-IIa.tsv cl_start_octal
+same_list known_places/specs/EndStates.antt ends_cm table_3-IIa.tsv cm_end_octal
+same_list known_places/specs/EndStates.antt ends_cl table_3-IIa.tsv cl_end_octal
+for crate in starts/specs/Starts.antt standard/specs/Tables.antt; do
+    same_list "$crate" advances_i5 table_705_3-I.tsv i5_advance
+    same_list "$crate" advances_q5 table_705_3-I.tsv q5_advance
+done
 same_list starts/proofs/PrintedVectors.antt vectors_i5 table_705_3-I.tsv i5_vector
 same_list starts/proofs/PrintedVectors.antt vectors_q5 table_705_3-I.tsv q5_vector
-echo "definitions: $lists lists, $numbers numbers, are those of the tables"
+same_vector standard/specs/Registers.antt vector_x1a X1A
+same_vector standard/specs/Registers.antt vector_x1b X1B
+same_vector standard/specs/Registers.antt vector_x2a X2A
+same_vector standard/specs/Registers.antt vector_x2b X2B
+echo "definitions: $lists lists, $numbers numbers, and $vectors vectors are those of the tables"

@@ -1,3 +1,2 @@
--- The papers' tables.
 pub mod EndStates
 pub mod KnownPlaces

@@ -7,14 +7,16 @@ use mathlib.Core.Path.{◌≡◌, refl, sym, ap, subst, ◌∙◌}
 use native.Mathlib.Nat.{pow-suc}
 use native.Mathlib.Omega.{arith}
 use lib.Dec.{ltb, leb, eqb}
-use lib.ListN.{length, length-append}
+use lib.ListN.{length, length-append, drop}
 use borrow.Author.Tests.{ltb-true, ltb-false, leb-true, eqb-true, eq-eqb, ne_eqb, le-leb, lt-ltb, le-ltb}
-use Rattle.std.specs.Prelude.{Some, None, IfSome, option_and_then}
+use Rattle.std.specs.Prelude.{Option, Some, None, IfSome, option_and_then}
+use Rattle.std.specs.Borrow.{Bor}
 use Rattle.std.specs.Prelude.{decimal}
+use Rattle.std.proofs.Math.Seq.{drop-append_seam}
 use Rattle.std.proofs.lemmas.Fmt.{AppendsLastDigit, decimal_from_appends, length-decimal-le}
 use Rattle.fields.specs.Fields.{digit}
 use Rattle.fields.proofs.Bytes.{digit_range}
-use Rattle.numbers.specs.Numbers.{Read, most32, most64, digits_in, number_word, with_digit, digits_on, read_number}
+use Rattle.numbers.specs.Numbers.{Read, of_read, most32, most64, digits_in, number_word, with_digit, digits_on, read_number, IsReadAs}
 
 -- ---- digits
 
@@ -175,3 +177,18 @@ module _ (most mark : ℕ) (small : most < 10 ^ 20) where
               let one : digits_in 20 (b - 48) ≡ b ∷ [] = rw (lt-ltb (b - 48) 10 (omega (arith, range.1)), again) refl in
               subst (λ (text : List ℕ). IsWordOf text (digits_on most mark (b - 48) bs)) (ap (λ (l : List ℕ). l ++ bs) one) (on_back (b - 48) bs)
           first false is = tt
+
+-- ---- as the code has them
+
+-- a number put behind what stands there is read back
+pub put_read : (mark n : ℕ) (before : List ℕ) → n < 2 ^ 64 → digit mark ≡ false → IsReadAs mark n (drop (length before) ((before ++ decimal n) ++ (mark ∷ [])))
+put_read mark n before h no_digit most few rest =
+    ap (λ (l : List ℕ). read_number most mark (drop (length before) l ++ rest)) (word_put mark n before h)
+    ∙ ap (λ (l : List ℕ). read_number most mark (l ++ rest)) (drop-append_seam before (number_word mark n))
+    ∙ number_there most mark no_digit n rest (omega (arith, h)) few
+
+-- a number read stands at the front of the text
+pub read_back : (most mark : ℕ) (text : List ℕ) (read : Option (ℕ × Bor (List ℕ))) → most < 2 ^ 64 → of_read read ≡ read_number most mark text
+    → IfSome read (λ p. text ≡ number_word mark p.0 ++ p.1.now)
+read_back most mark text None h e = tt
+read_back most mark text (Some p) h e = number_back most mark (omega (arith, h)) text p.0 p.1.now (sym e)

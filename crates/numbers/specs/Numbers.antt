@@ -1,6 +1,6 @@
 -- Numbers as words of text, and how such words are read. Bytes are those of ASCII: 48 to 57 are the digits. Behind each word stands a mark, which is no digit.
 -- Assumes nothing.
-use Rattle.std.specs.Prelude.{ℕ, zero, suc, ◌+◌, ◌-◌, ◌*◌, ◌/◌, ◌%◌, ◌&&◌, List, [], ◌∷◌, ◌++◌, Option, Some, None, option_map, option_and_then, ◌==◌, nat_lt, nat_le, if◌then◌else◌}
+use Rattle.std.specs.Prelude.{ℕ, zero, suc, ◌≡◌, ◌≤◌, ◌+◌, ◌-◌, ◌*◌, ◌/◌, ◌%◌, ◌&&◌, List, [], ◌∷◌, ◌++◌, Option, Some, None, option_map, option_and_then, ◌==◌, nat_lt, nat_le, if◌then◌else◌}
 use Rattle.std.specs.Borrow.{Bor}
 use Rattle.fields.specs.Fields.{digit}
 
@@ -50,6 +50,10 @@ digits_on most mark n (b ∷ bs) = if b == mark then Some (n, bs) else (with_dig
 unfoldable pub read_number : ℕ → ℕ → List ℕ → Read ℕ
 read_number most mark [] = None
 read_number most mark (b ∷ bs) = if digit b then digits_on most mark (b - 48) bs else None
+
+-- where it stands at the front of a text, a number's word is read as that number, and what stands behind it is left
+abbrev pub IsReadAs : ℕ → ℕ → List ℕ → Type 0
+IsReadAs mark n word = (most : ℕ) → n ≤ most → (rest : List ℕ) → read_number most mark (word ++ rest) ≡ Some (n, rest)
 
 -- up to k zeros dropped, each before a digit
 abbrev pub unpadded : ℕ → List ℕ → List ℕ

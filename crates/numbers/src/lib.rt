@@ -1,20 +1,23 @@
 // Numbers as words of text: written, and read back. Behind a word stands a mark. Room is asked for, and text appended, as `texts` says.
 #![tactic(auto)]
 
-ghost use Rattle.std.specs.Prelude.{◌≡◌, ◌≤◌, ◌+◌, ◌++◌, IfSome};
+ghost use Rattle.std.specs.Prelude.{◌≡◌, ◌≤◌, ◌+◌, ◌++◌, false, IfSome, drop};
 ghost use Rattle.arrayvec.specs.ArrayVec.{array_vec_len};
-ghost use Rattle.numbers.specs.Numbers.{number_word, of_read, with_digit, digits_on, read_number, unpadded, read_argument};
+ghost use Rattle.fields.specs.Fields.{digit};
+ghost use Rattle.numbers.specs.Numbers.{number_word, most64, of_read, with_digit, digits_on, read_number, IsReadAs, unpadded, read_argument};
 
 use arrayvec::ArrayVec;
 
 // ---- written
 
 // A number and the mark behind it, put behind what stands there: 21 bytes at most.
-#[tactic(auto, using(crate::proofs::Numbers::word_put, crate::proofs::Numbers::number_short))]
+#[tactic(auto, using(crate::proofs::Numbers::word_put, crate::proofs::Numbers::number_short, crate::proofs::Numbers::put_read))]
 pub fn put_number<const N: usize>(n: u64, mark: u8, out: &mut ArrayVec<u8, N>)
     requires room { array_vec_len out.old + 21 ≤ N }
     ensures appended { out.new.items ≡ out.old.items ++ number_word mark n }
     ensures short { array_vec_len out.new ≤ array_vec_len out.old + 21 }
+    ensures fits { n ≤ most64 }
+    ensures read_back { digit mark ≡ false → IsReadAs mark n (drop (array_vec_len out.old) out.new.items) }
 {
     let mut digits = itoa::Buffer::new();
     texts::append(digits.format(n).as_bytes(), out);
@@ -57,6 +60,7 @@ pub fn read_number(text: &[u8], most: u64, mark: u8) -> Option<(u64, &[u8])>
     requires { 9 ≤ most }
     ensures value { of_read result ≡ read_number most mark text.now }
     ensures at_most { IfSome result (λ p. p.0 ≤ most) }
+    ensures back { IfSome result (λ p. text.now ≡ number_word mark p.0 ++ p.1.now) }
 {
     match text {
         [first, rest @ ..] if fields::is_digit(*first) => {

@@ -1,7 +1,7 @@
--- DEMAND 2: "each chip of each signal, PRN 1 to 37, at each place of the week is that of IS-GPS-200 or IS-GPS-705".
---     every_chip    after any number n of steps from the opened channel, the machine's chip is the standards' chip at n modulo W
---     every_window  and so are the chips of any number of steps from there on, round the week
--- `standard` is the chip as the standards write it (`specs/Standard.antt`); `opened`, `advance` and `chip` are the stepped machine of document 01
+-- Each chip of each signal, PRN 1 to 37, at each place of the week is that of IS-GPS-200 or IS-GPS-705.
+--     every_chip    `Laws.antt: EveryChip`
+--     every_window  `Laws.antt: EveryWindow`
+-- `standard` is the chip as the standards write it (`specs/Standard.antt`); `opened`, `advance` and `chip` are the stepped machine's
 -- (`machine/specs/Machine.antt`). That the calls hand out these chips is said by their contracts and, of whole lists of calls, by `lists/specs/Lists.antt`.
 -- Assumes nothing.
 use mathlib.Core.List.{List, ◌∷◌, map}
@@ -19,10 +19,10 @@ use Rattle.week.proofs.SignalWeeks.{week_of_lem}
 use Rattle.week.proofs.LawOfTheWeek.{law_of_the_week}
 use Rattle.week.proofs.RoundTheWeek.{chips_round}
 use Rattle.standard.specs.Standard.{standard}
+use Rattle.standard.specs.Laws.{EveryChip, EveryWindow}
 use Rattle.standard.proofs.ChipBySignal.{in_order}
 
-pub every_chip : (signal prn n : ℕ) → is_signal signal ≡ true → is_prn prn ≡ true
-    → chip (advance n (opened signal prn)) ≡ standard signal prn (n % week_of signal)
+pub every_chip : EveryChip
 unfolding standard
 every_chip signal prn n signal_ok prn_ok =
     let w : ℕ = n % week_of signal in
@@ -41,5 +41,5 @@ module _ (signal prn : ℕ) (signal_ok : is_signal signal ≡ true) (prn_ok : is
       (every_chip signal prn (p % week_of signal) signal_ok prn_ok ∙ ap (standard signal prn) (mod-mod p (week_of signal)))
       (at_places n (suc p))
 
-  pub every_window : (n p : ℕ) → chips n (advance p (opened signal prn)) ≡ map (standard signal prn) (places_from (week_of signal) p n)
-  every_window n p = chips_round signal prn n p ∙ at_places n p
+pub every_window : EveryWindow
+every_window signal prn signal_ok prn_ok n p = chips_round signal prn n p ∙ at_places signal prn signal_ok prn_ok n p

@@ -1,4 +1,5 @@
--- `EveryChip` is demand 2; the others lead up to it, in this order.
+-- `EveryChip` is the law of every chip; the others lead up to it, in this order.
+pub mod SameRegisters
 pub mod Sequences
 pub mod Phases
 pub mod ChipBySignal

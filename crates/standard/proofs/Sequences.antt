@@ -21,7 +21,7 @@ use Rattle.leaps.specs.Leaps.{leap_if, leaps}
 use Rattle.leaps.proofs.Grown.{grown, by_leaps}
 use Rattle.starts.specs.Starts.{start_g2, stages_ca, advanced_xb}
 use Rattle.starts.proofs.Rounds.{g2_round}
-use Rattle.standard.specs.Standard.{code_delays}
+use Rattle.standard.specs.Tables.{code_delays}
 
 xb_back : times shift_xb 8191 0b1111111111111 ≡ 0b1111111111111
 unfolding grown columns shift sum_of stage combine leaps leap_if

@@ -1,5 +1,5 @@
 -- A program that takes bytes one after the other.
---     Plain, plain-take                        bytes without a newline, and the first k of them
+--     plain-take                               of bytes without a newline, the first k
 --     kept_more                                a line of which the first k bytes are kept
 --     replies-append, rest-append              what is said to two inputs, one after the other
 --     replies_more, rest_more                  to one byte more
@@ -10,12 +10,8 @@ use mathlib.Core.Path.{◌≡◌, refl, sym, ap, ◌∙◌}
 use native.Mathlib.Numerals.{add-one}
 use lib.ListN.{length, take, get_or}
 use lib.Seq.{take-suc}
+pub use Rattle.texts.specs.Saying.{Plain}
 use Rattle.texts.specs.Saying.{rest_of, replies_of}
-
--- no byte is a newline
-abbrev pub Plain : List ℕ → Type 0
-Plain [] = Unit {0}
-Plain (b ∷ bs) = (b ≡ 10 → ⊥) × Plain bs
 
 pub plain-take : (k : ℕ) (l : List ℕ) → Plain l → Plain (take k l)
 plain-take zero l p = tt

@@ -1,7 +1,7 @@
 -- A program that takes bytes one after the other, from state to state, and says something to each: where it stands after any number of bytes, and all that it
 -- has said. S is what it has to remember.
 -- Assumes nothing.
-use Rattle.std.specs.Prelude.{ℕ, List, [], ◌∷◌, ◌++◌}
+use Rattle.std.specs.Prelude.{ℕ, ◌≡◌, List, [], ◌∷◌, ◌++◌}
 
 abbrev pub rest_of : {S : Type 0} → (S → ℕ → S) → S → List ℕ → S
 rest_of next s [] = s
@@ -15,3 +15,8 @@ replies_of next said s (b ∷ bs) = said s b ++ replies_of next said (next s b) 
 abbrev pub whole : List (List ℕ) → List ℕ
 whole [] = []
 whole (chunk ∷ chunks) = chunk ++ whole chunks
+
+-- bytes without a newline, which is 10
+abbrev pub Plain : List ℕ → Type 0
+Plain [] = Unit {0}
+Plain (b ∷ bs) = (b ≡ 10 → ⊥) × Plain bs

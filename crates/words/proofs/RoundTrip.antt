@@ -6,12 +6,16 @@ use Prim.Native.Nat.{ℕ, ◌≤◌}
 use mathlib.Core.List.{List, ◌++◌, append_assoc}
 use mathlib.Core.Path.{◌≡◌, refl, sym, ap, subst, ◌∙◌}
 use native.Mathlib.Omega.{arith}
-use Rattle.std.specs.Prelude.{false, Some, IfSome}
+use lib.ListN.{length, drop}
+use Rattle.std.specs.Prelude.{false, Option, Some, None, IfSome}
+use Rattle.std.specs.Borrow.{Bor}
+use Rattle.std.proofs.Math.Seq.{drop-append_seam}
 use Rattle.machine.specs.declared.Generator.{Generator}
 use Rattle.machine.specs.declared.Channel.{Channel}
 use Rattle.fields.specs.Fields.{digit}
-use Rattle.numbers.specs.Numbers.{Read, most32, most64, number_word, read_number}
-use Rattle.words.specs.Words.{generator_word, generators_word, channel_word, read_generator, read_channel, ChannelFits}
+use Rattle.numbers.specs.Numbers.{Read, of_read, most32, most64, number_word, read_number}
+use Rattle.words.specs.Words.{generator_word, generators_word, channel_word, read_generator, read_channel, ChannelFits, IsReadAs}
+use Rattle.words.proofs.Writing.{channel_put}
 use Rattle.numbers.proofs.Numbers.{number_there, small32, small64, number_back}
 use Rattle.words.proofs.Generators.{there_first, IsWord, four, number_read, generator_there, generator_back}
 
@@ -122,3 +126,22 @@ module _ (mark : ℕ) where
       (generator_back 47 first.1 second.0 second.1 is7)
       (generator_back 47 second.1 third.0 third.1 is8)
       (generator_back mark third.1 fourth.0 fourth.1 is9)))))))))))
+
+-- ---- as the code has them
+
+-- a channel put behind what stands there is read back
+pub put_read : (mark : ℕ) (before : List ℕ) (ch : Channel) → ChannelFits ch → digit mark ≡ false
+    → IsReadAs mark ch
+    (drop (length before)
+    ((((((before ++ number_word 47 ch.signal) ++ number_word 47 ch.prn) ++ number_word 47 ch.place) ++ number_word 47 ch.epoch) ++ number_word 47 ch.delay)
+    ++ generators_word mark ch))
+put_read mark before ch fits no_digit rest =
+    ap (λ (l : List ℕ). read_channel mark (drop (length before) l ++ rest)) (channel_put mark before ch)
+    ∙ ap (λ (l : List ℕ). read_channel mark (l ++ rest)) (drop-append_seam before (channel_word mark ch))
+    ∙ there mark no_digit ch rest fits
+
+-- a channel read stands at the front of the text
+pub read_back : (mark : ℕ) (text : List ℕ) (read : Option (Channel × Bor (List ℕ))) → of_read read ≡ read_channel mark text
+    → IfSome read (λ p. text ≡ channel_word mark p.0 ++ p.1.now)
+read_back mark text None e = tt
+read_back mark text (Some p) e = back mark text p.0 p.1.now (sym e)

@@ -9,9 +9,9 @@ use Rattle.machine.specs.declared.Mode.{Mode}
 use Rattle.machine.specs.declared.Mode.TheVariants as modes
 use Rattle.machine.specs.declared.Generator.{Generator}
 use Rattle.machine.specs.declared.Channel.{Channel}
-use Rattle.numbers.specs.Numbers.{number_word}
+use Rattle.numbers.specs.Numbers.{most32, most64, number_word}
 use Rattle.numbers.proofs.Numbers.{number_short}
-use Rattle.words.specs.Words.{mode_word, generator_word, generators_word, channel_word}
+use Rattle.words.specs.Words.{mode_word, generator_word, generators_word, channel_word, ModeFits, GeneratorFits, ChannelFits}
 
 -- ---- words behind what stands there
 
@@ -87,3 +87,23 @@ channel_short mark ch =
     in
     four_short (number_word 47 ch.signal) (number_word 47 ch.prn) (number_word 47 ch.place) (a ++ (b ++ generators_word mark ch)) 21 21 21 382
     (number_short 47 ch.signal) (number_short 47 ch.prn) (number_short 47 ch.place) tail
+
+-- ---- what the fields hold, part by part
+
+pub generator_fits : (g : Generator) → g.register ≤ most32 → g.phase ≤ most32 → g.cycles ≤ most32 → ModeFits g.mode → GeneratorFits g
+generator_fits g register phase cycles mode = record { register = register; phase = phase; cycles = cycles; mode = mode }
+
+pub channel_fits : (ch : Channel) → ch.signal ≤ most32 → ch.prn ≤ most32 → ch.place ≤ most64 → ch.epoch ≤ most32 → ch.delay ≤ most64
+    → GeneratorFits ch.first × GeneratorFits ch.second × GeneratorFits ch.third × GeneratorFits ch.fourth → ChannelFits ch
+channel_fits ch signal prn place epoch delay generators =
+    record {
+      signal = signal;
+      prn = prn;
+      place = place;
+      epoch = epoch;
+      delay = delay;
+      first = generators.0;
+      second = generators.1;
+      third = generators.2;
+      fourth = generators.3;
+    }

@@ -1,7 +1,7 @@
 -- Channels as words of text, and how such words are read. Bytes are those of ASCII: 46 is `.`, 47 `/`, 72 `H`, 82 `R`. Behind each word stands a mark: a
 -- space, a newline, or one of the two that part the fields of a channel.
 -- Assumes nothing.
-use Rattle.std.specs.Prelude.{ℕ, ◌≤◌, List, [], ◌∷◌, ◌++◌, Some, None, option_map, ◌==◌, if◌then◌else◌}
+use Rattle.std.specs.Prelude.{ℕ, ◌≡◌, ◌≤◌, List, [], ◌∷◌, ◌++◌, Some, None, option_map, ◌==◌, if◌then◌else◌}
 use Rattle.machine.specs.declared.Mode.{Mode}
 use Rattle.machine.specs.declared.Mode.TheVariants as modes
 use Rattle.machine.specs.declared.Generator.{Generator}
@@ -102,3 +102,7 @@ read_channel mark text = do
     },
     fourth.1,
   )
+
+-- where it stands at the front of a text, a channel's word is read as that channel, and what stands behind it is left
+abbrev pub IsReadAs : ℕ → Channel → List ℕ → Type 0
+IsReadAs mark ch word = (rest : List ℕ) → read_channel mark (word ++ rest) ≡ Some (ch, rest)

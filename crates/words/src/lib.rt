@@ -1,21 +1,33 @@
 // Channels as words of text: written, and read back.
 #![tactic(auto)]
 
-ghost use Rattle.std.specs.Prelude.{◌≡◌, ◌≤◌, ◌+◌, ◌++◌};
+ghost use Rattle.std.specs.Prelude.{◌≡◌, ◌≤◌, ◌+◌, ◌++◌, false, IfSome, drop};
 ghost use Rattle.arrayvec.specs.ArrayVec.{array_vec_len};
-ghost use Rattle.numbers.specs.Numbers.{of_read, most32, read_number};
-ghost use Rattle.words.specs.Words.{mode_word, generator_word, generators_word, channel_word, read_running, read_held, read_mode, read_generator, read_channel};
+ghost use Rattle.fields.specs.Fields.{digit};
+ghost use Rattle.numbers.specs.Numbers.{number_word, of_read, most32, read_number};
+ghost use Rattle.words.specs.Words.{mode_word, generator_word, generators_word, channel_word, ModeFits, GeneratorFits, read_running, read_held, read_mode, read_generator, read_channel, IsReadAs};
 
 use arrayvec::ArrayVec;
 use machine::{Channel, Generator, Mode};
 
 // ---- words written: each behind what stands there, and its mark behind it. Room is asked for, and text appended, as `texts` says.
 
+// A number that a field of 32 bits holds.
+fn put_32<const N: usize>(n: u32, mark: u8, out: &mut ArrayVec<u8, N>)
+    requires room { array_vec_len out.old + 21 ≤ N }
+    ensures appended { out.new.items ≡ out.old.items ++ number_word mark n }
+    ensures short { array_vec_len out.new ≤ array_vec_len out.old + 21 }
+    ensures fits { n ≤ most32 }
+{
+    numbers::put_number(u64::from(n), mark, out);
+}
+
 #[tactic(auto, using(crate::proofs::Writing::running_put, crate::proofs::Writing::held_put))]
 fn put_mode<const N: usize>(mode: Mode, mark: u8, out: &mut ArrayVec<u8, N>)
     requires room { array_vec_len out.old + 22 ≤ N }
     ensures appended { out.new.items ≡ out.old.items ++ mode_word mark mode }
     ensures short { array_vec_len out.new ≤ array_vec_len out.old + 22 }
+    ensures fits { ModeFits mode }
 {
     match mode {
         Mode::Running => {
@@ -24,20 +36,21 @@ fn put_mode<const N: usize>(mode: Mode, mark: u8, out: &mut ArrayVec<u8, N>)
         }
         Mode::Held(n) => {
             out.push(b'H');
-            numbers::put_number(u64::from(n), mark, out);
+            put_32(n, mark, out);
         }
     }
 }
 
-#[tactic(auto, using(crate::proofs::Writing::generator_put))]
+#[tactic(auto, using(crate::proofs::Writing::generator_put, crate::proofs::Writing::generator_fits))]
 fn put_generator<const N: usize>(g: Generator, mark: u8, out: &mut ArrayVec<u8, N>)
     requires room { array_vec_len out.old + 85 ≤ N }
     ensures appended { out.new.items ≡ out.old.items ++ generator_word mark g }
     ensures short { array_vec_len out.new ≤ array_vec_len out.old + 85 }
+    ensures fits { GeneratorFits g }
 {
-    numbers::put_number(u64::from(g.register), b'.', out);
-    numbers::put_number(u64::from(g.phase), b'.', out);
-    numbers::put_number(u64::from(g.cycles), b'.', out);
+    put_32(g.register, b'.', out);
+    put_32(g.phase, b'.', out);
+    put_32(g.cycles, b'.', out);
     put_mode(g.mode, mark, out);
 }
 
@@ -46,6 +59,7 @@ fn put_generators<const N: usize>(ch: Channel, mark: u8, out: &mut ArrayVec<u8, 
     requires room { array_vec_len out.old + 340 ≤ N }
     ensures appended { out.new.items ≡ out.old.items ++ generators_word mark ch }
     ensures short { array_vec_len out.new ≤ array_vec_len out.old + 340 }
+    ensures fits { GeneratorFits ch.first × GeneratorFits ch.second × GeneratorFits ch.third × GeneratorFits ch.fourth }
 {
     put_generator(ch.first, b'/', out);
     put_generator(ch.second, b'/', out);
@@ -54,16 +68,17 @@ fn put_generators<const N: usize>(ch: Channel, mark: u8, out: &mut ArrayVec<u8, 
 }
 
 // A channel of any field values, `SIGNAL/PRN/PLACE/EPOCH/DELAY/A/B/C/D`: 445 bytes at most, its mark among them.
-#[tactic(auto, using(crate::proofs::Writing::channel_put))]
+#[tactic(auto, using(crate::proofs::Writing::channel_put, crate::proofs::Writing::channel_fits, crate::proofs::RoundTrip::put_read))]
 pub fn put_channel<const N: usize>(ch: Channel, mark: u8, out: &mut ArrayVec<u8, N>)
     requires room { array_vec_len out.old + 445 ≤ N }
     ensures appended { out.new.items ≡ out.old.items ++ channel_word mark ch }
     ensures short { array_vec_len out.new ≤ array_vec_len out.old + 445 }
+    ensures read_back { digit mark ≡ false → IsReadAs mark ch (drop (array_vec_len out.old) out.new.items) }
 {
-    numbers::put_number(u64::from(ch.signal), b'/', out);
-    numbers::put_number(u64::from(ch.prn), b'/', out);
+    put_32(ch.signal, b'/', out);
+    put_32(ch.prn, b'/', out);
     numbers::put_number(ch.place, b'/', out);
-    numbers::put_number(u64::from(ch.epoch), b'/', out);
+    put_32(ch.epoch, b'/', out);
     numbers::put_number(ch.delay, b'/', out);
     put_generators(ch, mark, out);
 }
@@ -126,9 +141,10 @@ fn read_generator(text: &[u8], mark: u8) -> Option<(Generator, &[u8])>
 }
 
 // A channel of any field values, up to its mark.
-#[tactic(auto, unfolding(crate::specs::Words::read_channel))]
+#[tactic(auto, using(crate::proofs::RoundTrip::read_back), unfolding(crate::specs::Words::read_channel))]
 pub fn read_channel(text: &[u8], mark: u8) -> Option<(Channel, &[u8])>
-    ensures { of_read result ≡ read_channel mark text.now }
+    ensures value { of_read result ≡ read_channel mark text.now }
+    ensures back { IfSome result (λ p. text.now ≡ channel_word mark p.0 ++ p.1.now) }
 {
     let (signal, rest) = read_32(text, b'/')?;
     let (prn, rest) = read_32(rest, b'/')?;

@@ -1,0 +1,3 @@
+-- What is printed of places and states, and proved.
+pub mod KnownPlaces
+pub mod EndStates
