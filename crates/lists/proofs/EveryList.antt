@@ -93,11 +93,11 @@ module _ (signal prn : ℕ) (signal_ok : is_signal signal ≡ true) (prn_ok : is
       ap₂ (λ x y. x ∷ y) (each done c)
       (ap (λ (ch : Channel). map f (replies ch cs)) (right done c).channel_is ∙ gives_each f g each cs (c ∷ done))
 
-  opened_right : (calls : List Call) → ListOfCalls signal prn (opened signal prn) calls
+  opened_right : (calls : List Call) → ListOfCalls signal prn (handed_back (opened signal prn) calls) (replies (opened signal prn) calls) calls
   opened_right calls =
       let told = gives_along (λ (r : Reply). r.leaps) (λ (p : ℕ) (c : Call). tells signal prn c) (λ done c. (right done c).leaps_are) calls []
       ∙ along-flat signal (tells signal prn) calls [] in
-      subst (λ (ch : Channel). ListOfCalls signal prn ch calls) at_zero
+      subst (λ (ch : Channel). ListOfCalls signal prn (handed_back ch calls) (replies ch calls) calls) at_zero
       (record {
         place =
             ap (λ (ch : Channel). ch.place) (fields_are calls [])
@@ -133,4 +133,4 @@ module _ (signal prn : ℕ) (signal_ok : is_signal signal ≡ true) (prn_ok : is
 pub every_list : EveryList
 every_list signal prn ch e calls =
     let o = open_accepted signal prn ch e in
-    subst (λ (x : Channel). ListOfCalls signal prn x calls) (sym o.2) (opened_right signal prn o.0 o.1 calls)
+    subst (λ (x : Channel). ListOfCalls signal prn (handed_back x calls) (replies x calls) calls) (sym o.2) (opened_right signal prn o.0 o.1 calls)

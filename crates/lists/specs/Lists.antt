@@ -1,5 +1,6 @@
 -- DEMAND 3. What holds of every list of calls: document 01, "Lists of calls". `ListOfCalls`, at the end, is one statement about a whole list, each of its right
--- sides made of the signal, the PRN and the arguments of the calls alone; `EveryList` says it of every list. `proofs/EveryList.antt` proves it.
+-- sides made of the signal, the PRN and the arguments of the calls alone; `EveryList` says it of every list, by the definitions of the calls, and `every_list` of
+-- `src/lib.rt` promises it. `call_lists` promises it of the code that runs a list.
 -- Assumes nothing.
 use Rattle.std.specs.Prelude.{ℕ, ◌+◌, ◌%◌, ◌≤◌, Bool, cond, ◌≡◌, ltb, leb, eqb, length, get_or}
 use mathlib.Core.List.{List, [], ◌∷◌, ◌++◌, map, flat_map, reverse}
@@ -117,27 +118,31 @@ tells signal prn (window count buffer at) = []
 
 -- ---- the statement
 
--- A list of calls from the channel ch.
-pub record ListOfCalls (signal prn : ℕ) (ch : Channel) (calls : List Call) : Type 0 where
+-- A list of calls: what is owed of the channel handed back and of the replies told, one for each call, in order. Each right side is made of the signal, the PRN
+-- and the arguments of the calls alone.
+pub record ListOfCalls (signal prn : ℕ) (back : Channel) (told : List Reply) (calls : List Call) : Type 0 where
   -- the place: that of the last accepted seek, or 0, plus the chips handed out since, modulo W
-  pub place : (handed_back ch calls).place ≡ (last_sought signal (reverse calls) + handed_out_since signal (reverse calls)) % week_of signal
+  pub place : back.place ≡ (last_sought signal (reverse calls) + handed_out_since signal (reverse calls)) % week_of signal
   -- every field: those of the stepped machine at that place
-  pub fields : handed_back ch calls ≡ advance (place_after signal (reverse calls)) (opened signal prn)
+  pub fields : back ≡ advance (place_after signal (reverse calls)) (opened signal prn)
   -- all chips handed out, in order: the machine's at the places passed
-  pub chips : flat_map (λ (r : Reply). r.chips) (replies ch calls) ≡ map (machine_chip signal prn) (along signal (passes signal) [] calls)
+  pub chips : flat_map (λ (r : Reply). r.chips) told ≡ map (machine_chip signal prn) (along signal (passes signal) [] calls)
   -- and those of IS-GPS-200 and IS-GPS-705 there
-  pub standards : flat_map (λ (r : Reply). r.chips) (replies ch calls) ≡ map (standard signal prn) (along signal (passes signal) [] calls)
+  pub standards : flat_map (λ (r : Reply). r.chips) told ≡ map (standard signal prn) (along signal (passes signal) [] calls)
   -- how many chips each call hands out: an accepted step one, an accepted window its count, any other call none
-  pub counts : map (λ (r : Reply). length r.chips) (replies ch calls) ≡ map (hands_out signal) calls
+  pub counts : map (λ (r : Reply). length r.chips) told ≡ map (hands_out signal) calls
   -- the number of each call, 0 where it is accepted
-  pub refusals : map (λ (r : Reply). r.refused) (replies ch calls) ≡ map (refusal_of signal) calls
+  pub refusals : map (λ (r : Reply). r.refused) told ≡ map (refusal_of signal) calls
   -- each window's buffer after its call, whole
-  pub buffers : flat_map (λ (r : Reply). r.buffers) (replies ch calls) ≡ along signal (leaves signal prn) [] calls
+  pub buffers : flat_map (λ (r : Reply). r.buffers) told ≡ along signal (leaves signal prn) [] calls
   -- the leaps of each accepted seek, by the rule
-  pub leaps : flat_map (λ (r : Reply). r.leaps) (replies ch calls) ≡ flat_map (tells signal prn) calls
+  pub leaps : flat_map (λ (r : Reply). r.leaps) told ≡ flat_map (tells signal prn) calls
   -- whichever of them: at most 44
-  pub few : (i : ℕ) → get_or (flat_map (λ (r : Reply). r.leaps) (replies ch calls)) i 0 ≤ 44
+  pub few : (i : ℕ) → get_or (flat_map (λ (r : Reply). r.leaps) told) i 0 ≤ 44
 
--- "A list starts from the channel that an accepted open gives, whatever its signal and PRN; the machine it is compared with has the same two."
+-- "A list starts from the channel that an accepted open gives, whatever its signal and PRN; the machine it is compared with has the same two." Here the channel
+-- handed back and the replies are those of the definitions.
 abbrev pub EveryList : Type 0
-EveryList = (signal prn : ℕ) (ch : Channel) → open_reply signal prn ≡ channel ch → (calls : List Call) → ListOfCalls signal prn ch calls
+EveryList =
+    (signal prn : ℕ) (ch : Channel) → open_reply signal prn ≡ channel ch → (calls : List Call)
+    → ListOfCalls signal prn (handed_back ch calls) (replies ch calls) calls

@@ -1,0 +1,3 @@
+-- A list of calls as the code makes it.
+pub mod Memory
+pub mod Told
