@@ -1,5 +1,5 @@
 -- What the reply says of open.
---     257 and 4,294,967,297 are refused and not narrowed; of two refusals the first written is given
+--     end_values       257 and 4,294,967,297 are refused and not narrowed; of two refusals the first written is given
 --     open_accepted    a channel that open gives is the opened one, of a signal and PRN that there are
 -- Assumes nothing.
 use mathlib.Core.Bool.{Bool, true, false, cond}
@@ -7,27 +7,17 @@ use mathlib.Core.Path.{◌≡◌, refl}
 use Prim.Native.Nat.{ℕ}
 use Rattle.machine.specs.Machine.{opened, is_signal, is_prn}
 use Rattle.machine.specs.declared.Channel.{Channel}
-use Rattle.call_open.specs.Open.{channel, refusal, open_reply}
+use Rattle.call_open.specs.Open.{channel, refusal, open_reply, EndValues}
 
-pub signal_257 : (prn : ℕ) → open_reply 257 prn ≡ refusal 1
+pub end_values : EndValues
 unfolding open_reply
-signal_257 prn = refl
-
-pub signal_4294967297 : (prn : ℕ) → open_reply 4294967297 prn ≡ refusal 1
-unfolding open_reply
-signal_4294967297 prn = refl
-
-pub prn_257 : open_reply 1 257 ≡ refusal 2
-unfolding open_reply
-prn_257 = refl
-
-pub prn_4294967297 : open_reply 1 4294967297 ≡ refusal 2
-unfolding open_reply
-prn_4294967297 = refl
-
-pub first_written : open_reply 0 0 ≡ refusal 1
-unfolding open_reply
-first_written = refl
+end_values = record {
+  signal_257 = λ prn. refl;
+  signal_4294967297 = λ prn. refl;
+  prn_257 = refl;
+  prn_4294967297 = refl;
+  first_written = refl;
+}
 
 pub open_accepted : (signal prn : ℕ) (ch : Channel) → open_reply signal prn ≡ channel ch
     → (is_signal signal ≡ true) × (is_prn prn ≡ true) × (ch ≡ opened signal prn)

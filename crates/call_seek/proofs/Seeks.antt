@@ -1,8 +1,7 @@
 -- What the reply says of seek.
 --     seek_past        a place from W on is refused with 3, seek_out_of_range: and before that a channel out of range with 4
---     leaps_few        no seek tells more than 44 leaps
---     seek_forgets     of the old channel only signal and PRN matter
 --     seeks_accepted   from wherever steps lead, a seek leads to every place of the week
+--     cases            these two, that one, and that of the old channel only signal and PRN matter, of whatever is that reply
 -- Assumes nothing.
 use mathlib.Core.Bool.{true, false}
 use mathlib.Core.Path.{◌≡◌, sym, ap, ap₂, subst, ◌∙◌}
@@ -21,7 +20,7 @@ use Rattle.week.proofs.LawOfTheWeek.{law_of_the_week}
 use Rattle.replies.specs.Reply.{Reply, refused_with}
 use Rattle.seeks.specs.Leaps.{leaps_to}
 use Rattle.seeks.proofs.FewLeaps.{at_most_44}
-use Rattle.call_seek.specs.Seek.{sought_with, seek_reply}
+use Rattle.call_seek.specs.Seek.{sought_with, seek_reply, Cases}
 
 module _ (ch : Channel) (place : ℕ) where
   seek_accepted : in_range ch ≡ true → place < week_of ch.signal
@@ -38,21 +37,7 @@ module _ (ch : Channel) (place : ℕ) where
   unfolding seek_reply
   seek_out_of_range e = simp e
 
-pub leaps_few : (ch : Channel) (place n : ℕ) → (seek_reply ch place).leaps ≡ n ∷ [] → n ≤ 44
-unfolding seek_reply
-leaps_few ch place n =
-    let told : Reply → Type 0 = λ r. r.leaps ≡ n ∷ [] → n ≤ 44 in
-    chosen told (in_range ch)
-    (λ t.
-    chosen told (ltb place (week_of ch.signal))
-    (λ u e. subst (λ (m : ℕ). m ≤ 44) (ap (λ (l : List ℕ). get_or l 0 0) e) (at_most_44 ch.signal ch.prn place))
-    (λ u e. absurd (none_told e)))
-    (λ t e. absurd (none_told e))
-  where
-    none_told : [] ≡ n ∷ [] → ⊥
-    none_told e = let lengths : length {A = ℕ} [] ≡ length (n ∷ []) = ap length e in omega (arith, lengths)
-
-pub seek_forgets : (ch old : Channel) (place : ℕ) → in_range ch ≡ true → in_range old ≡ true → ch.signal ≡ old.signal → ch.prn ≡ old.prn
+seek_forgets : (ch old : Channel) (place : ℕ) → in_range ch ≡ true → in_range old ≡ true → ch.signal ≡ old.signal → ch.prn ≡ old.prn
     → place < week_of ch.signal → seek_reply ch place ≡ seek_reply old place
 seek_forgets ch old place e f s p h =
     seek_accepted ch place e h
@@ -68,3 +53,13 @@ module _ (signal prn : ℕ) (signal_ok : is_signal signal ≡ true) (prn_ok : is
       let same-prn : here.prn ≡ prn = ap (λ (ch : Channel). ch.prn) (law_of_the_week signal prn n) in
       seek_accepted here place (reached_in signal prn n signal_ok prn_ok) (subst (λ (s : ℕ). place < week_of s) (sym same-signal) h)
       ∙ ap₂ (λ (s i : ℕ). sought_with (leaps_to s i place) (advance place (opened s i))) same-signal same-prn
+
+pub cases : (ch : Channel) (place : ℕ) (reply : Reply) → reply ≡ seek_reply ch place → Cases ch place reply
+cases ch place reply is =
+    record {
+      out_of_range = λ e. is ∙ seek_out_of_range ch place e;
+      past_the_week = λ e h. is ∙ seek_past ch place e h;
+      from_everywhere = λ signal prn n signal_ok prn_ok there within.
+      is ∙ ap (λ (x : Channel). seek_reply x place) there ∙ seeks_accepted signal prn signal_ok prn_ok n place within;
+      forgets = λ old e f s p within. is ∙ seek_forgets ch old place e f s p within;
+    }

@@ -2,7 +2,7 @@
 #![tactic(auto)]
 
 ghost use Rattle.std.specs.Prelude.{◌≡◌};
-ghost use Rattle.call_step.specs.Step.{of_stepped, step_reply};
+ghost use Rattle.call_step.specs.Step.{of_stepped, step_reply, ByTheStandards};
 
 use machine::Channel;
 use ranges::InRange;
@@ -18,7 +18,8 @@ pub struct Stepped {
 // The present chip, and the channel one step on; refusal 4, with the channel as it came, where a field is out of range.
 #[tactic(auto, unfolding(crate::specs::Step::step_reply))]
 pub fn step(ch: Channel) -> Result<Stepped, Refused>
-    ensures { of_stepped result ≡ step_reply ch }
+    ensures reply { of_stepped result ≡ step_reply ch }
+    ensures by_the_standards { ByTheStandards ch (of_stepped result) }
 {
     let ch = InRange::try_from(ch)?;
     let chip = steps::chip_of(ch);

@@ -3,7 +3,7 @@
 #![tactic(auto)]
 
 ghost use Rattle.std.specs.Prelude.{◌≡◌};
-ghost use Rattle.call_window.specs.Window.{of_windowed, window_reply};
+ghost use Rattle.call_window.specs.Window.{of_windowed, window_reply, Cases, ByTheStandards};
 
 use machine::Channel;
 use ranges::InRange;
@@ -14,7 +14,9 @@ use replies::Refused;
 // it cannot wrap. Count, buffer and `at` are the call's own arguments, and refusals 5 and 6 are about them.
 #[tactic(auto, unfolding(crate::specs::Window::window_reply))]
 pub fn window(ch: Channel, count: u64, buffer: &mut [u8], at: u64) -> Result<Channel, Refused>
-    ensures { of_windowed count at buffer.new result ≡ window_reply ch count buffer.old at }
+    ensures reply { of_windowed count at buffer.new result ≡ window_reply ch count buffer.old at }
+    ensures cases { Cases ch count buffer.old at (of_windowed count at buffer.new result) }
+    ensures by_the_standards { ByTheStandards ch count buffer.old at (of_windowed count at buffer.new result) }
 {
     let ch = InRange::try_from(ch)?.channel;
     if windows::MOST_CHIPS < count {

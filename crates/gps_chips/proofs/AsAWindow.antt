@@ -1,5 +1,4 @@
--- "the chips that a window of its length, on a channel opened and brought to that place, writes":
---     as_a_window   the buffer that Chips leaves is the buffer that this window leaves
+-- The buffer that Chips leaves is the one that a window of its length leaves, on a channel opened and brought to that place.
 -- Assumes nothing.
 use mathlib.Core.List.{List, [], ◌∷◌, ◌++◌, append-nil}
 use mathlib.Core.Path.{◌≡◌, sym, ap, ◌∙◌}
@@ -19,7 +18,7 @@ use Rattle.call_seek.specs.Seek.{seek_reply}
 use Rattle.call_seek.proofs.Seeks.{seeks_accepted}
 use Rattle.call_window.specs.Window.{most_chips, window_reply}
 use Rattle.call_window.proofs.Windows.{window_accepted}
-use Rattle.gps_chips.specs.Chips.{chips_buffer, by_the_machine}
+use Rattle.gps_chips.specs.Chips.{chips_buffer, by_the_machine, AsAWindow}
 use Rattle.gps_chips.proofs.Answers.{fits}
 
 -- bytes as many as the buffer has, written to its front, are all of it
@@ -27,10 +26,9 @@ written_whole : (bytes buffer : List ℕ) → length bytes ≡ length buffer →
 written_whole bytes buffer e =
     ap (λ (l : List ℕ). bytes ++ l) (drop_of_length-le buffer {i = 0 + length bytes} (omega (arith, e))) ∙ append-nil bytes
 
-pub as_a_window : (signal prn place : ℕ) (buffer : List ℕ) (ch : Channel) → open_reply signal prn ≡ channel ch → place < week_of signal → length buffer ≤ most_chips
-    → (window_reply (seek_reply ch place).channel (length buffer) buffer 0).buffers ≡ chips_buffer by_the_machine signal prn place buffer ∷ []
+pub as_a_window : (signal prn place : ℕ) (buffer after : List ℕ) → after ≡ chips_buffer by_the_machine signal prn place buffer → AsAWindow signal prn place buffer after
 unfolding chips_buffer
-as_a_window signal prn place buffer ch e within short =
+as_a_window signal prn place buffer after is ch e within short =
     let o = open_accepted signal prn ch e in
     let there : Channel = advance place (opened signal prn) in
     let sought : (seek_reply ch place).channel ≡ there =
@@ -38,6 +36,6 @@ as_a_window signal prn place buffer ch e within short =
     ∙ ap (λ (r : Reply). r.channel) (seeks_accepted signal prn o.0 o.1 0 place within)
     in
     let none = sym (fits signal prn place (length buffer) (record { is_signal = o.0; is_prn = o.1; within = within; short = short })) in
-    rw (sought, none)
+    rw (sought, is, none)
     (ap (λ (r : Reply). r.buffers) (window_accepted there (length buffer) buffer 0 (reached_in signal prn place o.0 o.1) short (omega arith))
     ∙ ap (λ (l : List ℕ). l ∷ []) (written_whole (chips (length buffer) there) buffer (chips-length (length buffer) there)))

@@ -1,12 +1,15 @@
 -- What Chips answers, and what its buffer has after the call, for every input: document 01, "Chips".
 -- Assumes nothing.
-use Rattle.std.specs.Prelude.{ℕ, cond, List, map, ltb, leb, eqb, length, Result, Ok, Err}
+use Rattle.std.specs.Prelude.{◌≡◌, ℕ, ◌<◌, ◌≤◌, cond, List, [], ◌∷◌, map, ltb, leb, eqb, length, Result, Ok, Err}
 use Rattle.machine.specs.Signals.{week_of, places_from}
 use Rattle.machine.specs.Machine.{opened, advance, chips, is_signal, is_prn}
+use Rattle.machine.specs.declared.Channel.{Channel}
 use Rattle.refusals.specs.Refusal.{number_of}
 use Rattle.refusals.specs.declared.Refusal.{Refusal}
 use Rattle.standard.specs.Standard.{standard}
-use Rattle.call_window.specs.Window.{most_chips}
+use Rattle.call_open.specs.Open.{channel, open_reply}
+use Rattle.call_seek.specs.Seek.{seek_reply}
+use Rattle.call_window.specs.Window.{most_chips, window_reply}
 
 -- what each case of the answer says: "It answers 0 or the refusal."
 abbrev pub of_chips : Result Unit Refusal → ℕ
@@ -30,3 +33,9 @@ by_the_standards signal prn place n = map (standard signal prn) (places_from (we
 unfoldable pub chips_buffer : (ℕ → ℕ → ℕ → ℕ → List ℕ) → ℕ → ℕ → ℕ → List ℕ → List ℕ
 chips_buffer chips_from signal prn place buffer =
     cond (eqb (chips_answer signal prn place (length buffer)) 0) (chips_from signal prn place (length buffer)) buffer
+
+-- where the call is accepted, the buffer after it is the one that a window of its length leaves, on a channel opened and brought to that place
+abbrev pub AsAWindow : ℕ → ℕ → ℕ → List ℕ → List ℕ → Type 0
+AsAWindow signal prn place buffer after =
+    (ch : Channel) → open_reply signal prn ≡ channel ch → place < week_of signal → length buffer ≤ most_chips
+    → (window_reply (seek_reply ch place).channel (length buffer) buffer 0).buffers ≡ after ∷ []

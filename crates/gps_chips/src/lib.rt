@@ -2,7 +2,7 @@
 #![tactic(auto)]
 
 ghost use Rattle.std.specs.Prelude.{◌≡◌, length};
-ghost use Rattle.gps_chips.specs.Chips.{of_chips, chips_answer, chips_buffer, by_the_machine, by_the_standards};
+ghost use Rattle.gps_chips.specs.Chips.{of_chips, chips_answer, chips_buffer, by_the_machine, by_the_standards, AsAWindow};
 
 use refusals::Refusal;
 use signals::{Prn, Signal};
@@ -14,6 +14,7 @@ pub fn gps_chips(signal: u64, prn: u64, place: u64, buffer: &mut [u8]) -> Result
     ensures answer { of_chips result ≡ chips_answer signal prn place (length buffer.old) }
     ensures chips_by_the_machine { buffer.new ≡ chips_buffer by_the_machine signal prn place buffer.old }
     ensures chips_by_the_standards { buffer.new ≡ chips_buffer by_the_standards signal prn place buffer.old }
+    ensures as_a_window { AsAWindow signal prn place buffer.old buffer.new }
 {
     let signal = Signal::try_from(signal)?;
     let prn = Prn::try_from(prn)?;

@@ -4,6 +4,7 @@
 --     no_gap       from a place to itself it is 0
 --     gap_turned   the other way it is the opposite, unless it is -W/2
 --     half_week    -W/2 is -W/2 the other way too
+--     other_ways   both of these
 -- Assumes nothing.
 use Prim.Native.Nat.{ℕ, ◌+◌, ◌*◌, ◌/◌, ◌%◌, ◌≤◌, ◌<◌}
 use mathlib.Core.Bool.{true, false}
@@ -16,33 +17,16 @@ use lib.Signed.{le_z, lt_z, ◌≤ℤ◌}
 use Rattle.machine.specs.Signals.{week_of}
 use Rattle.machine.specs.Machine.{is_signal}
 use Rattle.machine.proofs.Tests.{chosen}
-use Rattle.places.specs.Places.{answer, folded, gap_reply}
+use Rattle.places.specs.Places.{answer, folded, gap_reply, Congruent, WithinHalf, IsGap, OtherWay}
 use Rattle.places.proofs.Answers.{gap_answers, gap_accepted}
 use Rattle.places.proofs.Epochs.{week_even, week_some}
 use Rattle.places.proofs.Differences.{up, down, Is, difference_is, neg_up, neg_down, neg_is, plus, minus, weeks_on, le_passed, le_failed, lt_passed, lt_failed, is_le, le_is, are_same}
 
--- ---- what is said of a gap
-
--- x and y are congruent modulo w: they are whole weeks of w apart
-abbrev pub Congruent : ℕ → ℤ → ℤ → Type 0
-Congruent w x y = (k : ℤ) × (x ≡ y +ℤ k *ℤ pos w)
-
--- "-W/2 to W/2 - 1"
-pub record WithinHalf (w : ℕ) (z : ℤ) : Type 0 where
-  pub least : neg_ℤ (pos (w / 2)) ≤ℤ z
-  pub most : z ≤ℤ (pos (w / 2) -ℤ pos 1)
-
--- g is b - a brought into that range by whole weeks of w, and is the only number that is
-pub record IsGap (w a b : ℕ) (g : ℤ) : Type 0 where
-  pub within_half : WithinHalf w g
-  pub congruent : Congruent w g (pos b -ℤ pos a)
-  pub only : (z : ℤ) → WithinHalf w z → Congruent w z (pos b -ℤ pos a) → z ≡ g
+-- ---- by numbers
 
 -- g is in that range, and congruent to d
 abbrev Brought : ℕ → ℤ → ℤ → Type 0
 Brought w d g = WithinHalf w g × Congruent w g d
-
--- ---- by numbers
 
 -- two numbers less than w apart that are whole weeks apart
 one_week : (w m n x y : ℕ) → x + n * w ≡ y + m * w → x < y + w → y < x + w → x ≡ y
@@ -213,3 +197,10 @@ half_week signal a b answered =
           (weeks_on (pos a -ℤ pos b) j w a b (difference_is b a))
           (omega (arith, even, weeks, half_is, g-is)),
     )
+
+pub other_ways : (signal a b : ℕ) (g : ℤ) → gap_reply signal a b ≡ answer g → OtherWay signal a b g
+other_ways signal a b g answered =
+    record {
+      half_week = λ e. half_week signal a b (answered ∙ ap answer e) ∙ ap answer (sym e);
+      turned = gap_turned signal a b g answered;
+    }

@@ -2,10 +2,12 @@
 // out. Numbers are tested whole before they are narrowed.
 #![tactic(auto)]
 
-ghost use Rattle.std.specs.Prelude.{◌≡◌, ◌<◌, ◌^◌, pos, neg_ℤ, nat_abs, FitsSigned, ◌+ℤ◌, ◌-ℤ◌};
+ghost use Rattle.std.specs.Prelude.{◌≡◌, ◌<◌, ◌^◌, pos, neg_ℤ, nat_abs, FitsSigned, IfOk, ◌+ℤ◌, ◌-ℤ◌};
 ghost use Rattle.std.specs.Int.{w64};
 ghost use Rattle.signals.specs.Signals.{number_of};
-ghost use Rattle.places.specs.Places.{epoch_chips, of_read, reading_reply, of_placed, place_of_reply, folded_by, folded, of_parted, gap_reply};
+ghost use Rattle.machine.specs.Signals.{week_of};
+ghost use Rattle.places.specs.Places.{answer, epoch_chips, WeekByEpochs, of_read, reading_reply, EpochOfP, of_placed, place_of_reply, folded_by, folded, of_parted, gap_reply};
+ghost use Rattle.places.specs.Places.{IsGap, OtherWay, EndValues};
 
 use refusals::Refusal;
 use signals::Signal;
@@ -30,12 +32,20 @@ fn epoch_chips(signal: Signal) -> u64
     }
 }
 
+// W is 403,200 times E, for every signal.
+#[tactic(auto, using(crate::proofs::Epochs::week_by_epochs))]
+pub fn week_by_epochs()
+    ensures { WeekByEpochs }
+{
+}
+
 // ---- reading
 
-// The epoch in which a place lies, and which chip of it.
+// The epoch in which a place lies, and which chip of it. Place of undoes it.
 #[tactic(auto, unfolding(crate::specs::Places::reading_reply))]
 pub fn reading(signal: u64, place: u64) -> Result<Reading, Refusal>
-    ensures { of_read result ≡ reading_reply signal place }
+    ensures reply { of_read result ≡ reading_reply signal place }
+    ensures back { IfOk result (λ r. place_of_reply signal r.epoch r.chip ≡ answer place) }
 {
     let signal = Signal::try_from(signal)?;
     if signal.week() <= place {
@@ -47,12 +57,20 @@ pub fn reading(signal: u64, place: u64) -> Result<Reading, Refusal>
     Ok(Reading { epoch, chip })
 }
 
+// Of P, the epoch that Reading answers is the epoch of the stepped machine there.
+#[tactic(auto, using(crate::proofs::EpochOfP::epoch_of_p))]
+pub fn epoch_of_p()
+    ensures { EpochOfP }
+{
+}
+
 // ---- place of
 
-// The place of a chip of an epoch.
+// The place of a chip of an epoch. Reading undoes it.
 #[tactic(auto, unfolding(crate::specs::Places::place_of_reply))]
 pub fn place_of(signal: u64, epoch: u64, chip: u64) -> Result<u64, Refusal>
-    ensures { of_placed result ≡ place_of_reply signal epoch chip }
+    ensures reply { of_placed result ≡ place_of_reply signal epoch chip }
+    ensures back { IfOk result (λ place. reading_reply signal place ≡ answer (epoch, chip)) }
 {
     let signal = Signal::try_from(signal)?;
     if EPOCHS <= epoch {
@@ -102,10 +120,12 @@ fn chips_between(week: u64, a: u64, b: u64) -> i64
     fold((week / 2) as i64, week as i64, difference(a, b))
 }
 
-// The signed chips from one place to another, by the shorter way round the week.
+// The signed chips from one place to another, by the shorter way round the week: the only number from -W/2 to W/2 - 1 that is congruent to b - a modulo W.
 #[tactic(auto, unfolding(crate::specs::Places::gap_reply))]
 pub fn gap(signal: u64, a: u64, b: u64) -> Result<i64, Refusal>
-    ensures { of_parted result ≡ gap_reply signal a b }
+    ensures reply { of_parted result ≡ gap_reply signal a b }
+    ensures only { IfOk result (λ g. IsGap (week_of signal) a b g) }
+    ensures other_way { IfOk result (λ g. OtherWay signal a b g) }
 {
     let week = Signal::try_from(signal)?.week();
     if week <= a || week <= b {
@@ -119,4 +139,13 @@ pub fn size(chips: i64) -> u64
     ensures { result ≡ nat_abs chips }
 {
     chips.unsigned_abs()
+}
+
+// ---- the ends of the ranges
+
+// What the three calls answer at the ends of their ranges and just past them.
+#[tactic(auto, using(crate::proofs::EndValues::end_values))]
+pub fn end_values()
+    ensures { EndValues }
+{
 }

@@ -1,12 +1,16 @@
--- The channel at a place is in range, and what the machine fills the buffer with is what the standards do.
+-- The channel at a place is in range, what the machine fills the buffer with is what the standards do, and it is what a window there leaves.
 -- Assumes nothing.
 use mathlib.Core.Path.{ap, subst, ◌∙◌}
 use Prim.Native.Nat.{ℕ, ◌<◌}
 use lib.ListN.{length}
+use Rattle.std.proofs.Common.{rules, arith}
+use Rattle.std.proofs.lemmas.Grind.{common_steps}
 use Rattle.machine.specs.Signals.{week_of}
 use Rattle.machine.proofs.RangeLaw.{reached_in}
 use Rattle.machine.proofs.Ranges.{ranged}
+use Rattle.gps_chips.specs.Chips.{chips_answer, chips_buffer}
 use Rattle.gps_chips.proofs.Answers.{Admitted, filled, agree}
+use Rattle.gps_chips.proofs.AsAWindow.{as_a_window}
 use Rattle.gps_chips.proofs.gps_chips.Goals as goal
 
 pub write_chips-requires-clause-ranged : goal.write_chips-requires-clause-ranged
@@ -21,3 +25,15 @@ returns-clause-chips_by_the_standards c =
     let admitted : Admitted a.signal a.prn a.place (length a.buffer.now) = record { is_signal = c.in_ok-signal.ensures.0; is_prn = c.in_ok-prn.ensures.0; within = within; short = c.if-buffer-gt-MOST_CHIPS.false } in
     let made = rw (c.land.ensures, c.in_ok-signal.ensures.1, c.in_ok-prn.ensures.1) at c.write_chips.ensures.1 in
     filled a.signal a.prn a.place a.buffer.now admitted _ made ∙ agree a.signal a.prn a.place a.buffer.now
+
+pub returns-in_err-signal-clause-as_a_window : goal.returns-in_err-signal-clause-as_a_window
+unfolding chips_answer chips_buffer
+returns-in_err-signal-clause-as_a_window c = as_a_window c.args.signal c.args.prn c.args.place c.args.buffer.now _ (search rules)
+
+pub returns-in_err-prn-clause-as_a_window : goal.returns-in_err-prn-clause-as_a_window
+unfolding chips_answer chips_buffer
+returns-in_err-prn-clause-as_a_window c = as_a_window c.args.signal c.args.prn c.args.place c.args.buffer.now _ (search rules)
+
+pub returns-clause-as_a_window : goal.returns-clause-as_a_window
+unfolding chips_answer chips_buffer
+returns-clause-as_a_window c = as_a_window c.args.signal c.args.prn c.args.place c.args.buffer.now _ (grind (arith, common_steps))
