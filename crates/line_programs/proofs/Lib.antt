@@ -1,1 +1,2 @@
 pub mod Dialogs
+pub mod Chunks

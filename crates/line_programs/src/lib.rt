@@ -2,16 +2,17 @@
 // input does.
 #![tactic(auto)]
 
-ghost use Rattle.std.specs.Prelude.{◌≡◌, [], ◌∷◌, ◌++◌, ◌+◌, ◌≤◌, ◌<◌, ℕ, List, length, take, IfSome, OnOk};
-ghost use Rattle.std.specs.Io.KnownBytes.{Appends};
+ghost use Rattle.std.specs.Prelude.{◌≡◌, [], ◌∷◌, ◌++◌, ◌+◌, ◌≤◌, ◌<◌, ◌⊎◌, ℕ, List, length, take, ⊤, IfSome, IfOk, OnOk, OnErr, IfErr};
+ghost use Rattle.std.specs.Io.{ReadsAtMost, WritesAtMost};
+ghost use Rattle.std.specs.Io.KnownBytes.{Appends, ReadConsumes, WriteAppends};
 ghost use Rattle.arrayvec.specs.ArrayVec.{array_vec_len};
 ghost use Rattle.line_programs.specs.Dialogs.{Course, Laws, stands, says, saying};
-ghost use Rattle.line_programs.specs.Talks.{Says};
+ghost use Rattle.line_programs.specs.Talks.{Begins, AnswersRead, IsEndless, OnInput, OnOutput, Answered};
 
 use arrayvec::ArrayVec;
 use std::env::{Env, FillError};
 use std::io;
-use std::io::{Read, Write};
+use std::io::{Read, Stdin, Stdout, Write};
 use thiserror::Error;
 
 // So many bytes are read at once.
@@ -160,10 +161,69 @@ impl<A: Talk<KEPT>, const KEPT: usize> Dialog<A, KEPT> {
     }
 }
 
+// ---- what is read and written, and whether that has failed
+
+// A reader, and whether it has failed: `failed` of one that never does is a fact that never holds.
+pub trait Source: Read {
+    ghost failed: { Self → Type 0 };
+
+    // As `read`.
+    fn fetch(&mut self, buffer: &mut [u8]) -> io::Result<usize>
+        ensures bound { ReadsAtMost result buffer.new }
+        ensures bytes { ReadConsumes (Self.remaining self.old) (Self.remaining self.new) result buffer.new }
+        ensures err { OnErr result (failed self.new) };
+}
+
+// A writer, and whether it has failed. To take none of what it was given is to fail.
+pub trait Sink: Write {
+    ghost failed: { Self → Type 0 };
+
+    // As `write`.
+    fn put(&mut self, bytes: &[u8]) -> io::Result<usize>
+        ensures bound { WritesAtMost result bytes.now }
+        ensures bytes { WriteAppends (Self.contents self.old) (Self.contents self.new) result bytes.now }
+        ensures none { IfOk result (λ n. n ≡ 0 → 0 < length bytes.now → failed self.new) }
+        ensures err { OnErr result (failed self.new) };
+}
+
+// Of the standard streams nothing can be said.
+impl Source for Stdin {
+    ghost failed = { λ _. ⊤ };
+
+    fn fetch(&mut self, buffer: &mut [u8]) -> io::Result<usize> {
+        self.read(buffer)
+    }
+}
+
+impl Sink for Stdout {
+    ghost failed = { λ _. ⊤ };
+
+    fn put(&mut self, bytes: &[u8]) -> io::Result<usize> {
+        self.write(bytes)
+    }
+}
+
+// All of the bytes: std's `write_all` does not say what was written where it failed.
+fn put_all<W: Sink>(output: &mut W, bytes: &[u8]) -> io::Result<()>
+    ensures ok { OnOk result (Appends (W.contents output.old) (W.contents output.new) bytes.now) }
+    ensures begun { Begins (W.contents output.old) (W.contents output.new) bytes.now }
+    ensures err { OnErr result (W.failed output.new) }
+{
+    let mut rest = bytes;
+    while !rest.is_empty() {
+        let taken = output.put(rest)?;
+        if taken == 0 {
+            return Err(io::Error::from(io::ErrorKind::WriteZero));
+        }
+        rest = &rest[taken..];
+    }
+    Ok(())
+}
+
 // ---- a program. A dialog, a buffer and an output go along one beside the other: they are loans of different owners, and a struct would borrow all three.
 
 // The answers to a chunk, written as the buffer fills and at the chunk's end, so that someone who types a line sees its answer.
-fn answer<A: Answers<KEPT, N>, const KEPT: usize, const N: usize, W: Write>(
+fn answer<A: Answers<KEPT, N>, const KEPT: usize, const N: usize, W: Sink>(
     dialog: &mut Dialog<A, KEPT>,
     chunk: &[u8],
     out: &mut ArrayVec<u8, N>,
@@ -171,38 +231,44 @@ fn answer<A: Answers<KEPT, N>, const KEPT: usize, const N: usize, W: Write>(
 ) -> io::Result<()>
     requires room { A.room ≤ N }
     ensures answerer { dialog.new.answerer ≡ dialog.old.answerer }
-    ensures said { OnOk result ((more : List ℕ) → Says (W.contents output.old) (W.contents output.new)
-        (saying (A.course dialog.old.answerer) (A.state dialog.old.line.items dialog.old.memory) (chunk.now ++ more))
-        (saying (A.course dialog.old.answerer) (A.state dialog.new.line.items dialog.new.memory) more)) }
+    ensures said { OnOk result (Answered (A.course dialog.old.answerer) (A.state dialog.old.line.items dialog.old.memory)
+        (A.state dialog.new.line.items dialog.new.memory) chunk.now (W.contents output.old) (W.contents output.new)) }
+    ensures begun { Begins (W.contents output.old) (W.contents output.new)
+        (says (A.course dialog.old.answerer) (A.state dialog.old.line.items dialog.old.memory) chunk.now) }
+    ensures err { OnErr result (W.failed output.new) }
 {
     let mut rest = chunk;
     // Not a `for`: each turn of the dialog says how far it came.
     while !rest.is_empty() {
         out.clear();
         let used = dialog.feed(rest, out);
-        output.write_all(out.as_slice())?;
+        put_all(output, out.as_slice())?;
         rest = &rest[used..];
     }
     Ok(())
 }
 
 // The answer that the input's end brings: that of a last line lacking its newline, if there is one.
-fn finish<A: Answers<KEPT, N>, const KEPT: usize, const N: usize, W: Write>(
+fn finish<A: Answers<KEPT, N>, const KEPT: usize, const N: usize, W: Sink>(
     dialog: &Dialog<A, KEPT>,
     out: &mut ArrayVec<u8, N>,
     output: &mut W,
 ) -> io::Result<()>
     requires room { A.last_room ≤ N }
-    ensures { OnOk result (Appends (W.contents output.old) (W.contents output.new)
+    ensures said { OnOk result (Appends (W.contents output.old) (W.contents output.new)
         (saying (A.course dialog.now.answerer) (A.state dialog.now.line.items dialog.now.memory) [])) }
+    ensures begun { Begins (W.contents output.old) (W.contents output.new)
+        (saying (A.course dialog.now.answerer) (A.state dialog.now.line.items dialog.now.memory) []) }
+    ensures err { OnErr result (W.failed output.new) }
 {
     out.clear();
     dialog.finish(out);
-    output.write_all(out.as_slice())
+    put_all(output, out.as_slice())
 }
 
-// Reads and answers a chunk at a time, as it comes, by the buffer lent. A read that fails is not the end of the input: an unfinished line is left without an answer.
-pub fn answer_all<A: Answers<KEPT, N>, const KEPT: usize, const N: usize, R: Read, W: Write>(
+// Reads and answers a chunk at a time, as it comes, by the buffer lent. It ends early only where a read or a write failed, and whatever was written is a beginning
+// of the answers. A read that fails is not the end of the input: all lines read by then are answered, and an unfinished one is left without an answer.
+pub fn answer_all<A: Answers<KEPT, N>, const KEPT: usize, const N: usize, R: Source, W: Sink>(
     dialog: &mut Dialog<A, KEPT>,
     out: &mut ArrayVec<u8, N>,
     input: &mut R,
@@ -210,23 +276,29 @@ pub fn answer_all<A: Answers<KEPT, N>, const KEPT: usize, const N: usize, R: Rea
 ) -> Result<(), Failed>
     requires room { A.room ≤ N }
     requires last_room { A.last_room ≤ N }
-    ensures { OnOk result (IfSome (R.remaining input.old) (λ bytes. Appends (W.contents output.old) (W.contents output.new)
+    ensures ok { OnOk result (IfSome (R.remaining input.old) (λ bytes. Appends (W.contents output.old) (W.contents output.new)
         (saying (A.course dialog.old.answerer) (A.state dialog.old.line.items dialog.old.memory) bytes))) }
+    ensures begun { IfSome (R.remaining input.old) (λ bytes. Begins (W.contents output.old) (W.contents output.new)
+        (saying (A.course dialog.old.answerer) (A.state dialog.old.line.items dialog.old.memory) bytes)) }
+    ensures read { IfErr result (λ e. OnInput e (AnswersRead (R.remaining input.old) (R.remaining input.new) (W.contents output.old) (W.contents output.new)
+        (says (A.course dialog.old.answerer) (A.state dialog.old.line.items dialog.old.memory)))) }
+    ensures input { IfErr result (λ e. OnInput e (R.failed input.new ⊎ IsEndless (R.remaining input.old))) }
+    ensures output { IfErr result (λ e. OnOutput e (W.failed output.new)) }
 {
     let mut buffer = [0u8; CHUNK];
     for _ in 0..u64::MAX {
-        let got = input.read(&mut buffer).map_err(Failed::Input)?;
+        let got = input.fetch(&mut buffer).map_err(Failed::Input)?;
         if got == 0 {
             return finish(dialog, out, output).map_err(Failed::Output);
         }
         answer(dialog, &buffer[..got], out, output).map_err(Failed::Output)?;
     }
-    Err(too_many_reads())
+    Err(Failed::Input(too_many_reads()))
 }
 
 // A proved loop has to end, and nothing says that an input does: so a program gives up after more reads than any run makes.
-fn too_many_reads() -> Failed {
-    Failed::Input(io::Error::from(io::ErrorKind::TimedOut))
+fn too_many_reads() -> io::Error {
+    io::Error::from(io::ErrorKind::TimedOut)
 }
 
 // Whether the program was given any argument, be it text or not. It has no clause, since what `Env` promises of `arg` says nothing of which arguments there are.
