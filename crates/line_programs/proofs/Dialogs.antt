@@ -46,6 +46,10 @@ begins_of None now text later all grew is = tt
 begins_of (Some o) None text later all grew is = absurd grew
 begins_of (Some o) (Some n) text later all grew is = (text, grew, ap (take (length text)) is ∙ take-append_seam text later)
 
+-- a beginning of a beginning
+pub begins_more : (old now : Option (List ℕ)) (text later all : List ℕ) → Begins old now text → all ≡ text ++ later → Begins old now all
+begins_more old now text later all begun is = begins_on old old now [] text later all (Appends-nil old) begun is
+
 module _ {S : Type 0} (c : Course S) (keeps : Keeps c) where
   abbrev rest : S → List ℕ → S
   rest s bs = rest_of c.next s bs

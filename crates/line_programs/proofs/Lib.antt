@@ -1,2 +1,3 @@
 pub mod Dialogs
 pub mod Chunks
+pub mod Tries

@@ -1,8 +1,8 @@
 use Rattle.std.proofs.Common.{rules, arith, ◌<◌, ◌∙◌, [], length, take, subst, refl}
 use Rattle.std.specs.Io.KnownBytes.{Consumes, IsAtEnd}
 use Rattle.line_programs.specs.Dialogs.{says, saying}
-use Rattle.line_programs.specs.Talks.{Answered, Begins}
-use Rattle.line_programs.proofs.Chunks.{been_none, been_more, been_begun, been_begun_by, been_begun_last}
+use Rattle.line_programs.specs.Talks.{Answered, Begins, BeginsRead}
+use Rattle.line_programs.proofs.Chunks.{been_none, been_more, been_begun, been_written, been_last, begun_read}
 use Rattle.line_programs.proofs.answer_all.Goals as goal
 
 pub loop-init : goal.loop-init
@@ -24,29 +24,67 @@ returns-then-got-eq0-clause-begun g c =
     let course = g.A.Talk.course in
     let here = g.A.Talk.state c.loop.dialog.line.items c.loop.dialog.memory in
     let left = g.R.Read.remaining c.loop.input in
-    let after = g.R.Read.remaining c.fetch.new.self in
-    let read : Consumes left after (take c.in_ok-got.got c.fetch.new.buffer) = search rules in
-    let end : IsAtEnd after = search rules in
+    let after = g.R.Read.remaining c.fetch_again.new.input in
     let now = g.W.Write.contents c.loop.output in
     let new = g.W.Write.contents c.finish.new.output in
-    been_begun_last (course self.answerer) (g.met.A.Talk.laws self.answerer).keeps _ here _ left after _ now new _ c.loop.invariant.been
-    (subst (λ n. Consumes left after (take n c.fetch.new.buffer)) c.if-got-eq0.true read) end
-    (subst (λ a. Begins now new (saying (course a) here [])) c.loop.invariant.answerer c.finish.ensures.begun)
+    let read : Consumes left after (take c.in_ok-got.got c.fetch_again.new.buffer) = search rules in
+    let end : IsAtEnd after = search rules in
+    let written =
+    been_last (course self.answerer) (g.met.A.Talk.laws self.answerer).keeps _ here _ left after _ now new _ c.loop.invariant.been
+    (subst (λ n. Consumes left after (take n c.fetch_again.new.buffer)) c.if-got-eq0.true read) end
+    (subst (λ a. Begins now new (saying (course a) here [])) c.loop.invariant.answerer c.finish.ensures.begun) in
+    begun_read (course self.answerer) (g.met.A.Talk.laws self.answerer).keeps _ _ _ _ _ written
+
+pub returns-then-got-eq0-clause-written : goal.returns-then-got-eq0-clause-written
+returns-then-got-eq0-clause-written g c =
+    let self = c.args.dialog.now in
+    let course = g.A.Talk.course in
+    let here = g.A.Talk.state c.loop.dialog.line.items c.loop.dialog.memory in
+    let left = g.R.Read.remaining c.loop.input in
+    let after = g.R.Read.remaining c.fetch_again.new.input in
+    let now = g.W.Write.contents c.loop.output in
+    let new = g.W.Write.contents c.finish.new.output in
+    let read : Consumes left after (take c.in_ok-got.got c.fetch_again.new.buffer) = search rules in
+    let end : IsAtEnd after = search rules in
+    let written =
+    been_last (course self.answerer) (g.met.A.Talk.laws self.answerer).keeps _ here _ left after _ now new _ c.loop.invariant.been
+    (subst (λ n. Consumes left after (take n c.fetch_again.new.buffer)) c.if-got-eq0.true read) end
+    (subst (λ a. Begins now new (saying (course a) here [])) c.loop.invariant.answerer c.finish.ensures.begun) in
+    search rules
 
 pub returns-in_err-map_err-clause-begun : goal.returns-in_err-map_err-clause-begun
 returns-in_err-map_err-clause-begun g c =
     let self = c.args.dialog.now in
     let course = g.A.Talk.course in
     let here = g.A.Talk.state c.loop.dialog.line.items c.loop.dialog.memory in
-    let chunk = take c.in_ok-got.got c.fetch.new.buffer in
+    let chunk = take c.in_ok-got.got c.fetch_again.new.buffer in
     let left = g.R.Read.remaining c.loop.input in
-    let after = g.R.Read.remaining c.fetch.new.self in
-    let read : Consumes left after chunk = search rules in
+    let after = g.R.Read.remaining c.fetch_again.new.input in
     let now = g.W.Write.contents c.loop.output in
     let new = g.W.Write.contents c.answer.new.output in
+    let read : Consumes left after chunk = search rules in
     let begun : Begins now new (says (course c.loop.dialog.answerer) here chunk) = search rules in
-    been_begun_by (course self.answerer) (g.met.A.Talk.laws self.answerer).keeps _ here _ left after _ now new _ chunk c.loop.invariant.been read
-    (subst (λ a. Begins now new (says (course a) here chunk)) c.loop.invariant.answerer begun)
+    let written =
+    been_written (course self.answerer) (g.met.A.Talk.laws self.answerer).keeps _ here _ left after _ now new _ chunk c.loop.invariant.been read
+    (subst (λ a. Begins now new (says (course a) here chunk)) c.loop.invariant.answerer begun) in
+    begun_read (course self.answerer) (g.met.A.Talk.laws self.answerer).keeps _ _ _ _ _ written
+
+pub returns-in_err-map_err-clause-written : goal.returns-in_err-map_err-clause-written
+returns-in_err-map_err-clause-written g c =
+    let self = c.args.dialog.now in
+    let course = g.A.Talk.course in
+    let here = g.A.Talk.state c.loop.dialog.line.items c.loop.dialog.memory in
+    let chunk = take c.in_ok-got.got c.fetch_again.new.buffer in
+    let left = g.R.Read.remaining c.loop.input in
+    let after = g.R.Read.remaining c.fetch_again.new.input in
+    let now = g.W.Write.contents c.loop.output in
+    let new = g.W.Write.contents c.answer.new.output in
+    let read : Consumes left after chunk = search rules in
+    let begun : Begins now new (says (course c.loop.dialog.answerer) here chunk) = search rules in
+    let written =
+    been_written (course self.answerer) (g.met.A.Talk.laws self.answerer).keeps _ here _ left after _ now new _ chunk c.loop.invariant.been read
+    (subst (λ a. Begins now new (says (course a) here chunk)) c.loop.invariant.answerer begun) in
+    search rules
 
 pub loop-preserved : goal.loop-preserved
 loop-preserved g c =
@@ -54,9 +92,9 @@ loop-preserved g c =
     let course = g.A.Talk.course in
     let here = g.A.Talk.state c.loop.dialog.line.items c.loop.dialog.memory in
     let there = g.A.Talk.state c.answer.new.dialog.line.items c.answer.new.dialog.memory in
-    let chunk = take c.in_ok-got.got c.fetch.new.buffer in
+    let chunk = take c.in_ok-got.got c.fetch_again.new.buffer in
     let left = g.R.Read.remaining c.loop.input in
-    let after = g.R.Read.remaining c.fetch.new.self in
+    let after = g.R.Read.remaining c.fetch_again.new.input in
     let read : Consumes left after chunk = search rules in
     let some : 0 < length chunk = search (rules, arith) in
     let now = g.W.Write.contents c.loop.output in

@@ -9,7 +9,7 @@ loop-rest-preserved g c =
     let (done, split, grew) = c.loop-rest.invariant in
     let rest = c.loop-rest.rest.now in
     let taken = c.in_ok-taken.taken in
-    let grows : Appends (g.W.Write.contents c.loop-rest.output) (g.W.Write.contents c.put.new.self) (take taken rest) = search rules in (
+    let grows : Appends (g.W.Write.contents c.loop-rest.output) (g.W.Write.contents c.put_again.new.output) (take taken rest) = search rules in (
       done ++ take taken rest,
       split
           ∙ ap (λ l. done ++ l) (sym (take-append-drop taken rest) ∙ ap (λ l. take taken rest ++ l) (sym (take_rest rest taken)))
