@@ -240,9 +240,9 @@ fn fetch_again<R: Source>(input: &mut R, buffer: &mut [u8]) -> io::Result<usize>
     for _ in 0..MOST_TRIES {
         match input.fetch(buffer) {
             Ok(got) => return Ok(got),
-            Err(error) => {
-                if !is_interrupted(&error) {
-                    return Err(error);
+            Err(unread) => {
+                if !is_interrupted(&unread) {
+                    return Err(unread);
                 }
             }
         }
@@ -260,9 +260,9 @@ fn put_again<W: Sink>(output: &mut W, bytes: &[u8]) -> io::Result<usize>
     for _ in 0..MOST_TRIES {
         match output.put(bytes) {
             Ok(taken) => return Ok(taken),
-            Err(error) => {
-                if !is_interrupted(&error) {
-                    return Err(error);
+            Err(unwritten) => {
+                if !is_interrupted(&unwritten) {
+                    return Err(unwritten);
                 }
             }
         }
