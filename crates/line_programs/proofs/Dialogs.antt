@@ -16,13 +16,8 @@ use Rattle.texts.proofs.Saying.{replies-append, rest-append, replies_more, rest_
 use Rattle.std.proofs.Common.{Option, None, Some}
 use Rattle.std.specs.Io.KnownBytes.{Appends}
 use Rattle.std.proofs.KnownBytes.{Appends-nil, Appends-trans, starts_with_rest}
-use Rattle.line_programs.specs.Dialogs.{Course, Keeps, stands, says, saying}
+use Rattle.line_programs.specs.Dialogs.{Course, Keeps, stands, says, saying, fed_with}
 use Rattle.line_programs.specs.Talks.{Begins, Answered}
-
--- what a dialog says to chunk after chunk
-abbrev pub fed_with : {S : Type 0} → Course S → S → List (List ℕ) → List ℕ
-fed_with c s [] = c.last s
-fed_with c s (chunk ∷ chunks) = says c s chunk ++ fed_with c (stands c s chunk) chunks
 
 -- known output that grew, and then by a beginning of what comes next, grew by a beginning of all
 pub begins_on : (old now new : Option (List ℕ)) (done text later all : List ℕ) → Appends old now done → Begins now new text → all ≡ done ++ (text ++ later)

@@ -9,6 +9,7 @@ ghost use Rattle.std.specs.IoError.{error_kind};
 ghost use Rattle.std.specs.declared.io.ErrorKind.TheVariants.{Interrupted};
 ghost use Rattle.arrayvec.specs.ArrayVec.{array_vec_len};
 ghost use Rattle.line_programs.specs.Dialogs.{Course, Laws, stands, says, saying};
+ghost use Rattle.line_programs.specs.Lines.{LinesAndBack};
 ghost use Rattle.line_programs.specs.Talks.{OneMore, HasFailed, Begins, AnswersRead, BeginsRead, IsEndless, OnInput, OnOutput, Answered};
 
 use arrayvec::ArrayVec;
@@ -30,6 +31,13 @@ pub enum Failed {
     Input(io::Error),
     #[error("standard output: {0}")]
     Output(io::Error),
+}
+
+// The law of lines: cut at its newlines and joined again an input is the input, and joined and cut again lines are the lines.
+#[tactic(auto, using(crate::proofs::Lines::lines_and_back))]
+pub fn lines_and_back()
+    ensures { LinesAndBack }
+{
 }
 
 // ---- a dialog
