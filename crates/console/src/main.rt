@@ -5,8 +5,8 @@
 
 ghost use Rattle.std.specs.Prelude.{◌≤◌, ◌⊎◌, length, IfSome, OnOk, IfErr};
 ghost use Rattle.std.specs.Io.KnownBytes.{Appends};
-ghost use Rattle.line_programs.specs.Talks.{Begins, AnswersRead, IsEndless, OnInput, OnOutput};
-ghost use Rattle.sessions.specs.Sessions.{replies, begun as new_session, output as whole_output};
+ghost use Rattle.line_programs.specs.Talks.{HasFailed, Begins, AnswersRead, BeginsRead, IsEndless, OnInput, OnOutput};
+ghost use Rattle.sessions.specs.Sessions.{output as whole_output, output_so_far};
 
 use arrayvec::ArrayVec;
 use line_programs::{Dialog, Failed, Sink, Source};
@@ -46,9 +46,11 @@ fn answer_all<R: Source, W: Sink>(help: &[u8], input: &mut R, output: &mut W) ->
     ensures ok { OnOk result (IfSome (R.remaining input.old) (λ bytes. Appends (W.contents output.old) (W.contents output.new) (whole_output help.now bytes))) }
     ensures begun { IfSome (R.remaining input.old) (λ bytes. Begins (W.contents output.old) (W.contents output.new) (whole_output help.now bytes)) }
     ensures read { IfErr result (λ e. OnInput e (AnswersRead (R.remaining input.old) (R.remaining input.new) (W.contents output.old) (W.contents output.new)
-        (replies help.now new_session))) }
-    ensures input { IfErr result (λ e. OnInput e (R.failed input.new ⊎ IsEndless (R.remaining input.old))) }
-    ensures output { IfErr result (λ e. OnOutput e (W.failed output.new)) }
+        (output_so_far help.now))) }
+    ensures written { IfErr result (λ e. OnOutput e (BeginsRead (R.remaining input.old) (R.remaining input.new) (W.contents output.old) (W.contents output.new)
+        (output_so_far help.now) (whole_output help.now))) }
+    ensures input { IfErr result (λ e. OnInput e (HasFailed (R.failed input.new) (R.interrupted input.new) ⊎ IsEndless (R.remaining input.old))) }
+    ensures output { IfErr result (λ e. OnOutput e (HasFailed (W.failed output.new) (W.interrupted output.new))) }
 {
     let mut session: Session = Dialog::new(Console { help }, None);
     let mut out = ArrayVec::<u8, OUT>::new();
