@@ -10,6 +10,7 @@ use mathlib.Core.List.{List, [], ◌∷◌, ◌++◌}
 use mathlib.Core.Path.{◌≡◌, refl, ap, ap₂, ◌∙◌}
 use lib.Dec.{eqb}
 use Rattle.texts.specs.Saying.{whole}
+use Rattle.gps_chips.specs.Chips.{by_the_machine}
 use Rattle.lines.specs.Lines.{line_reply}
 use Rattle.line_programs.specs.Lines.{ended_from, unended_from}
 use Rattle.line_programs.proofs.Lines.{lines_and_back}
@@ -24,8 +25,8 @@ replies_from line [] = refl
 replies_from line (b ∷ bs) = by (eqb b 10) (replies_from [] bs) (replies_from (line ++ (b ∷ [])) bs)
   where
     by : (t : Bool) → replies [] bs ≡ replies_to (ended_from [] bs) → replies (line ++ (b ∷ [])) bs ≡ replies_to (ended_from (line ++ (b ∷ [])) bs)
-        → cond t (line_reply line) [] ++ replies (cond t [] (line ++ (b ∷ []))) bs ≡ replies_to (cond t (line ∷ ended_from [] bs) (ended_from (line ++ (b ∷ [])) bs))
-    by true afresh more = ap (λ (l : List ℕ). line_reply line ++ l) afresh
+        → cond t (line_reply by_the_machine line) [] ++ replies (cond t [] (line ++ (b ∷ []))) bs ≡ replies_to (cond t (line ∷ ended_from [] bs) (ended_from (line ++ (b ∷ [])) bs))
+    by true afresh more = ap (λ (l : List ℕ). line_reply by_the_machine line ++ l) afresh
     by false afresh more = more
 
 rest_from : (line bs : List ℕ) → rest line bs ≡ unended_from line bs

@@ -3,6 +3,7 @@
 use Rattle.std.specs.Prelude.{ℕ, ◌≡◌, cond, List, [], ◌∷◌, ◌++◌, eqb, take}
 use Rattle.texts.specs.Texts.{refused_line}
 use Rattle.texts.specs.Saying.{rest_of, replies_of, whole}
+use Rattle.gps_chips.specs.Chips.{by_the_machine}
 use Rattle.lines.specs.Lines.{line_reply}
 use Rattle.line_programs.specs.Lines.{ended, unended, joined, AllPlain}
 use Rattle.line_programs.specs.Dialogs.{Course, fed_with}
@@ -13,7 +14,7 @@ use Rattle.texts.proofs.Saying.{Plain}
 -- the replies to lines, in order: "newline after each"
 abbrev pub replies_to : List (List ℕ) → List ℕ
 replies_to [] = []
-replies_to (line ∷ lines) = line_reply line ++ replies_to lines
+replies_to (line ∷ lines) = line_reply by_the_machine line ++ replies_to lines
 
 -- what the end of the input has it say: "9: a line of another form, a last one lacking its newline included"
 abbrev pub last_reply : List ℕ → List ℕ
@@ -36,7 +37,7 @@ next line b = cond (eqb b 10) [] (line ++ (b ∷ []))
 
 -- what that byte has the program say
 abbrev pub said : List ℕ → ℕ → List ℕ
-said line b = cond (eqb b 10) (line_reply line) []
+said line b = cond (eqb b 10) (line_reply by_the_machine line) []
 
 -- the same of any number of bytes more
 abbrev pub rest : List ℕ → List ℕ → List ℕ
