@@ -2,18 +2,26 @@
 // what a line is answered, `streams` what a stream of them is, and `line_programs` has the loop over that.
 #![tactic(auto)]
 
-ghost use Rattle.std.specs.Prelude.{IfSome, OnOk};
+ghost use Rattle.std.specs.Prelude.{◌⊎◌, IfSome, OnOk, IfErr};
 ghost use Rattle.std.specs.Io.KnownBytes.{Appends};
-ghost use Rattle.streams.specs.Stream.{answers};
+ghost use Rattle.line_programs.specs.Talks.{HasFailed, Begins, AnswersRead, BeginsRead, IsEndless, OnInput, OnOutput};
+ghost use Rattle.streams.specs.Stream.{answers, answers_so_far};
 
 use arrayvec::ArrayVec;
-use line_programs::{CHUNK, Dialog, Failed};
-use std::io::{Read, Write};
+use line_programs::{CHUNK, Dialog, Failed, Sink, Source};
 use streams::{Replies, Stream};
 
 // Reads and answers all of the input. The console has one like it: each ensures a definition of its own, and what is alike is in `line_programs`.
-fn answer_all<R: Read, W: Write>(input: &mut R, output: &mut W) -> Result<(), Failed>
-    ensures { OnOk result (IfSome (R.remaining input.old) (λ bytes. Appends (W.contents output.old) (W.contents output.new) (answers bytes))) }
+#[tactic(auto, using(streams::proofs::EveryInput::every_input))]
+fn answer_all<R: Source, W: Sink>(input: &mut R, output: &mut W) -> Result<(), Failed>
+    ensures ok { OnOk result (IfSome (R.remaining input.old) (λ bytes. Appends (W.contents output.old) (W.contents output.new) (answers bytes))) }
+    ensures begun { IfSome (R.remaining input.old) (λ bytes. Begins (W.contents output.old) (W.contents output.new) (answers bytes)) }
+    ensures read { IfErr result (λ e. OnInput e (AnswersRead (R.remaining input.old) (R.remaining input.new) (W.contents output.old) (W.contents output.new)
+        answers_so_far)) }
+    ensures written { IfErr result (λ e. OnOutput e (BeginsRead (R.remaining input.old) (R.remaining input.new) (W.contents output.old) (W.contents output.new)
+        answers_so_far answers)) }
+    ensures input { IfErr result (λ e. OnInput e (HasFailed (R.failed input.new) (R.interrupted input.new) ⊎ IsEndless (R.remaining input.old))) }
+    ensures output { IfErr result (λ e. OnOutput e (HasFailed (W.failed output.new) (W.interrupted output.new))) }
 {
     let mut stream: Stream = Dialog::new(Replies, ());
     // It has room for a reply, and behind it for many more.

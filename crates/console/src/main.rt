@@ -3,14 +3,15 @@
 // the loop over that.
 #![tactic(auto)]
 
-ghost use Rattle.std.specs.Prelude.{◌≤◌, length, IfSome, OnOk};
+ghost use Rattle.std.specs.Prelude.{◌≤◌, ◌⊎◌, length, IfSome, OnOk, IfErr};
 ghost use Rattle.std.specs.Io.KnownBytes.{Appends};
-ghost use Rattle.sessions.specs.Sessions.{output as whole_output};
+ghost use Rattle.line_programs.specs.Talks.{HasFailed, Begins, AnswersRead, BeginsRead, IsEndless, OnInput, OnOutput};
+ghost use Rattle.sessions.specs.Sessions.{output as whole_output, output_so_far};
 
 use arrayvec::ArrayVec;
-use line_programs::{Dialog, Failed};
+use line_programs::{Dialog, Failed, Sink, Source};
 use sessions::{Console, OUT, Session};
-use std::io::{IsTerminal, Read, Write};
+use std::io::IsTerminal;
 
 // What `help` is answered.
 const HELP: &[u8] = b"open S P                    ok CH            a channel at place 0
@@ -40,9 +41,16 @@ For example: open 2 1, then seek . 15344999, window . 10 10 0, step .
 
 // Reads and answers all of the input. Apart from that of `codes`: each ensures a definition of its own.
 #[tactic(auto, using(sessions::proofs::EverySession::every_input))]
-fn answer_all<R: Read, W: Write>(help: &[u8], input: &mut R, output: &mut W) -> Result<(), Failed>
+fn answer_all<R: Source, W: Sink>(help: &[u8], input: &mut R, output: &mut W) -> Result<(), Failed>
     requires { length help.now ≤ 66048 }
-    ensures { OnOk result (IfSome (R.remaining input.old) (λ bytes. Appends (W.contents output.old) (W.contents output.new) (whole_output help.now bytes))) }
+    ensures ok { OnOk result (IfSome (R.remaining input.old) (λ bytes. Appends (W.contents output.old) (W.contents output.new) (whole_output help.now bytes))) }
+    ensures begun { IfSome (R.remaining input.old) (λ bytes. Begins (W.contents output.old) (W.contents output.new) (whole_output help.now bytes)) }
+    ensures read { IfErr result (λ e. OnInput e (AnswersRead (R.remaining input.old) (R.remaining input.new) (W.contents output.old) (W.contents output.new)
+        (output_so_far help.now))) }
+    ensures written { IfErr result (λ e. OnOutput e (BeginsRead (R.remaining input.old) (R.remaining input.new) (W.contents output.old) (W.contents output.new)
+        (output_so_far help.now) (whole_output help.now))) }
+    ensures input { IfErr result (λ e. OnInput e (HasFailed (R.failed input.new) (R.interrupted input.new) ⊎ IsEndless (R.remaining input.old))) }
+    ensures output { IfErr result (λ e. OnOutput e (HasFailed (W.failed output.new) (W.interrupted output.new))) }
 {
     let mut session: Session = Dialog::new(Console { help }, None);
     let mut out = ArrayVec::<u8, OUT>::new();

@@ -1,1 +1,4 @@
 pub mod Dialogs
+pub mod Chunks
+pub mod Tries
+pub mod Lines

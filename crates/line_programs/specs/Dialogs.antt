@@ -25,6 +25,12 @@ says c s bytes = replies_of c.next c.said s bytes
 abbrev pub saying : {S : Type 0} → Course S → S → List ℕ → List ℕ
 saying c s input = says c s input ++ c.last (rest_of c.next s input)
 
+-- What is said to an input that comes in chunks. `feed` says what is said to a chunk, from where the dialog stands before it, and leaves it where that leads, as
+-- far as that is kept; `finish` says what the input's end brings.
+abbrev pub fed_with : {S : Type 0} → Course S → S → List (List ℕ) → List ℕ
+fed_with c s [] = c.last s
+fed_with c s (chunk ∷ chunks) = says c s chunk ++ fed_with c (stands c s chunk) chunks
+
 -- What is kept of where a dialog stands says as much as all.
 pub record Keeps {S : Type 0} (c : Course S) : Type 0 where
   pub next : (s : S) (b : ℕ) → c.kept (c.next (c.kept s) b) ≡ c.kept (c.next s b)

@@ -78,16 +78,16 @@ pub filled : (signal prn place count : ℕ) (old new : List ℕ) → length old 
 unfolding chips_buffer
 filled signal prn place count old new long e is = is ∙ rw (sym e) (ap (by_the_machine signal prn place) long)
 
-pub reply_refused : (signal_field prn_field place_field : List ℕ) (signal prn place count : ℕ) (r : Refusal) → line_refusal signal prn place count ≡ number_of r
-    → reply_to signal_field prn_field place_field signal prn place count ≡ refused_line (number_of r)
-reply_refused signal_field prn_field place_field signal prn place count r e = rw (e, ne_eqb (number_of r) 0 (λ none. omega (arith, none, is_numbered r))) refl
+pub reply_refused : (chips_from : ℕ → ℕ → ℕ → ℕ → List ℕ) (signal_field prn_field place_field : List ℕ) (signal prn place count : ℕ) (r : Refusal) → line_refusal signal prn place count ≡ number_of r
+    → reply_to chips_from signal_field prn_field place_field signal prn place count ≡ refused_line (number_of r)
+reply_refused chips_from signal_field prn_field place_field signal prn place count r e = rw (e, ne_eqb (number_of r) 0 (λ none. omega (arith, none, is_numbered r))) refl
 
 -- ---- four fields
 
 module _ (signal prn place count : List ℕ) where
-  pub reply_malformed : are_numbers signal prn place count ≡ false → refused_line 9 ≡ fields_reply signal prn place count
+  pub reply_malformed : (chips_from : ℕ → ℕ → ℕ → ℕ → List ℕ) → are_numbers signal prn place count ≡ false → refused_line 9 ≡ fields_reply chips_from signal prn place count
   unfolding fields_reply
-  reply_malformed bad = rw bad
+  reply_malformed chips_from bad = rw bad
 
   -- each field is a number, so it has at most 13 bytes
   pub record Numbers : Type 0 where
@@ -117,10 +117,10 @@ module _ (signal prn place count : List ℕ) where
 -- ---- a line
 
 -- the longest well-formed line has 55 bytes: four times 13 digits, and three spaces
-pub long_refused : (line : List ℕ) → 55 < length line → line_reply line ≡ refused_line 9
+pub long_refused : (chips_from : ℕ → ℕ → ℕ → ℕ → List ℕ) (line : List ℕ) → 55 < length line → line_reply chips_from line ≡ refused_line 9
 unfolding line_reply
-long_refused line long =
-    sym (reply_malformed (signal_field line) (prn_field line) (place_field line) (count_field line) (by (are_numbers (signal_field line) (prn_field line) (place_field line) (count_field line)) refl))
+long_refused chips_from line long =
+    sym (reply_malformed (signal_field line) (prn_field line) (place_field line) (count_field line) chips_from (by (are_numbers (signal_field line) (prn_field line) (place_field line) (count_field line)) refl))
   where
     by : (t : Bool) → are_numbers (signal_field line) (prn_field line) (place_field line) (count_field line) ≡ t → t ≡ false
     by false e = refl

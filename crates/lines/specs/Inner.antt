@@ -2,6 +2,7 @@
 -- Assumes nothing.
 use Rattle.std.specs.Prelude.{ℕ, ◌≤◌, Bool, List, length}
 use Rattle.fields.specs.Fields.{value}
+use Rattle.gps_chips.specs.Chips.{by_the_machine}
 use Rattle.lines.specs.declared.Asked.{Asked}
 use Rattle.lines.specs.declared.Fields.{Fields}
 use Rattle.lines.specs.Lines.{are_numbers, answered_with, fields_reply}
@@ -22,5 +23,6 @@ asked_of f = record { signal = value f.signal.now; prn = value f.prn.now; place 
 abbrev pub answered_of : Fields → List ℕ → List ℕ
 answered_of f chips = answered_with f.signal.now f.prn.now f.place.now chips
 
+-- the reply, with the machine's chips
 abbrev pub fields_reply_of : Fields → List ℕ
-fields_reply_of f = fields_reply f.signal.now f.prn.now f.place.now f.count.now
+fields_reply_of f = fields_reply by_the_machine f.signal.now f.prn.now f.place.now f.count.now

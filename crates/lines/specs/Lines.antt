@@ -5,7 +5,6 @@ use Rattle.std.specs.Prelude.{ℕ, Bool, cond, ◌&&◌, List, [], ◌∷◌, �
 use Rattle.machine.specs.Signals.{week_of}
 use Rattle.machine.specs.Machine.{is_signal, is_prn}
 use Rattle.fields.specs.Fields.{before, after, is_number, value, shorn}
-use Rattle.gps_chips.specs.Chips.{by_the_machine}
 use Rattle.texts.specs.Texts.{refused_line, chip_digit}
 
 -- ---- the form of a line: "signal, PRN, place, count, each 1 to 13 digits, one space between"
@@ -45,17 +44,20 @@ echoed field = shorn field ++ (32 ∷ [])
 abbrev pub answered_with : List ℕ → List ℕ → List ℕ → List ℕ → List ℕ
 answered_with signal prn place chips = echoed signal ++ (echoed prn ++ (echoed place ++ (map chip_digit chips ++ (10 ∷ []))))
 
--- given the first three fields, and the four numbers
-abbrev pub reply_to : List ℕ → List ℕ → List ℕ → ℕ → ℕ → ℕ → ℕ → List ℕ
-reply_to signal_field prn_field place_field signal prn place count =
+-- given who gives the chips, the first three fields, and the four numbers
+abbrev pub reply_to : (ℕ → ℕ → ℕ → ℕ → List ℕ) → List ℕ → List ℕ → List ℕ → ℕ → ℕ → ℕ → ℕ → List ℕ
+reply_to chips_from signal_field prn_field place_field signal prn place count =
     cond (eqb (line_refusal signal prn place count) 0)
-    (answered_with signal_field prn_field place_field (by_the_machine signal prn place count))
+    (answered_with signal_field prn_field place_field (chips_from signal prn place count))
     (refused_line (line_refusal signal prn place count))
 
 -- "9: a line of another form", judged first
-unfoldable pub fields_reply : List ℕ → List ℕ → List ℕ → List ℕ → List ℕ
-fields_reply signal prn place count =
-    cond (are_numbers signal prn place count) (reply_to signal prn place (value signal) (value prn) (value place) (value count)) (refused_line 9)
+unfoldable pub fields_reply : (ℕ → ℕ → ℕ → ℕ → List ℕ) → List ℕ → List ℕ → List ℕ → List ℕ → List ℕ
+fields_reply chips_from signal prn place count =
+    cond (are_numbers signal prn place count)
+    (reply_to chips_from signal prn place (value signal) (value prn) (value place) (value count))
+    (refused_line 9)
 
-unfoldable pub line_reply : List ℕ → List ℕ
-line_reply line = fields_reply (signal_field line) (prn_field line) (place_field line) (count_field line)
+-- the chips are the machine's, `by_the_machine`, or, which is proved to be the same, the standards', `by_the_standards`
+unfoldable pub line_reply : (ℕ → ℕ → ℕ → ℕ → List ℕ) → List ℕ → List ℕ
+line_reply chips_from line = fields_reply chips_from (signal_field line) (prn_field line) (place_field line) (count_field line)

@@ -8,7 +8,7 @@ ghost use Rattle.refusals.specs.declared.Refusal.TheVariants as refusals;
 ghost use Rattle.fields.specs.Fields.{is_number, value};
 ghost use Rattle.texts.specs.Texts.{refused_line};
 ghost use Rattle.lines.specs.Lines.{echoed, line_refusal, line_reply};
-ghost use Rattle.gps_chips.specs.Chips.{by_the_machine};
+ghost use Rattle.gps_chips.specs.Chips.{by_the_machine, by_the_standards};
 ghost use Rattle.lines.specs.Inner.{are_numbers_of, asked_of, answered_of, fields_reply_of, AreShort};
 
 use arrayvec::ArrayVec;
@@ -50,7 +50,7 @@ impl<'a> Fields<'a> {
     // What stands before the first three spaces, and all that is left.
     #[tactic(auto, unfolding(crate::specs::Lines::line_reply))]
     fn of(line: &'a [u8]) -> Fields<'a>
-        ensures { fields_reply_of result ≡ line_reply line.now }
+        ensures { fields_reply_of result ≡ line_reply by_the_machine line.now }
     {
         let (signal, rest) = fields::split(line);
         let (prn, rest) = fields::split(rest);
@@ -132,10 +132,12 @@ fn answer<const N: usize>(fields: Fields, out: &mut ArrayVec<u8, N>) -> Result<(
     Ok(())
 }
 
-// The reply to a line, behind what stands there.
+// The reply to a line, behind what stands there: its chips are the machine's, and the standards'.
+#[tactic(auto, using(crate::proofs::ByTheStandards::reply_by_the_standards))]
 pub fn reply<const N: usize>(line: &[u8], out: &mut ArrayVec<u8, N>)
     requires room { array_vec_len out.old + ROOM ≤ N }
-    ensures { out.new.items ≡ out.old.items ++ line_reply line.now }
+    ensures by_the_machine { out.new.items ≡ out.old.items ++ line_reply by_the_machine line.now }
+    ensures by_the_standards { out.new.items ≡ out.old.items ++ line_reply by_the_standards line.now }
 {
     if let Err(refusal) = answer(Fields::of(line), out) {
         texts::append_refused(refusal, out);

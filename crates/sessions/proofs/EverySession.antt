@@ -1,5 +1,6 @@
 -- EVERY SESSION at the console, and its whole output.
---     every_input      a session's output is the answers to the input's lines, in order
+--     every_read       what is said byte by byte to some bytes is the answers to their lines, in order
+--     every_input      what is said byte by byte to an input, its end included, is the answers to its lines, in order
 --     every_session    the output is the answers to the input's lines, in order, however the input is cut into chunks and however long a line is: what the
 --                      promises of `feed` and `finish` say of chunk after chunk, put together
 -- Assumes nothing.
@@ -14,20 +15,18 @@ use lib.Seq.{take_all, take-append-le}
 use borrow.Author.Tests.{leb-true, leb-false, eqb-false, ne_eqb}
 use Rattle.texts.specs.Saying.{whole}
 use Rattle.texts.proofs.Saying.{Plain, plain-take, kept_more}
+use Rattle.line_programs.specs.Lines.{ended_from, unended_from, ended}
+use Rattle.line_programs.proofs.Lines.{plain_more}
 use Rattle.line_programs.proofs.Dialogs as dialogs
 use Rattle.std.specs.Prelude.{Option}
 use Rattle.machine.specs.declared.Channel.{Channel}
 use Rattle.commands.specs.Commands.{command_of}
 use Rattle.commands.specs.declared.Command.{Command}
 use Rattle.commands.proofs.LongLines.{late}
-use Rattle.sessions.specs.Sessions.{answer_of, last_of, nobody, command_in, answers_to, lines_from, output, Talk, kept, asked, rest, replies, last_answer, saying, begun, course}
+use Rattle.sessions.specs.Sessions.{answer_of, last_of, nobody, command_in, answers_to, last_line, output, output_so_far, Talk, kept, asked, rest, replies, last_answer, saying, begun, course, EverySession}
 use Rattle.sessions.specs.Laws.{keeps}
 
 -- ---- a line of any length
-
-plain_more : (l : List ℕ) (b : ℕ) → Plain l → (b ≡ 10 → ⊥) → Plain (l ++ (b ∷ []))
-plain_more [] b p n = (n, tt)
-plain_more (a ∷ l) b p n = (p.0, plain_more l b p.1 n)
 
 abbrev standing : List ℕ → Option Channel → Talk
 standing line last = record { line = line; last = last }
@@ -56,57 +55,66 @@ kept_some k a l e = absurd (omega (arith, e))
 some_left : (help : List ℕ) (t : Talk) → (length t.line ≡ 0 → ⊥) → last_answer help t ≡ answer_of help (asked t)
 some_left help t n = rw (ne_eqb (length t.line) 0 n)
 
-line_left : (l : List ℕ) → (length l ≡ 0 → ⊥) → lines_from l [] ≡ l ∷ []
-line_left l n = rw (ne_eqb (length l) 0 n)
-
 module _ (help : List ℕ) where
-  -- the answer to a line, and what is said after it
-  answered : (last : Option Channel) (l bs : List ℕ) → Plain l
-      → ((later : Option Channel) → saying help (standing [] later) bs ≡ answers_to help later (lines_from [] bs))
-      → (answer_of help (asked (standing (kept l) last)) ++ replies help (standing [] (last_of last (asked (standing (kept l) last)))) bs)
-      ++ last_answer help (rest (standing [] (last_of last (asked (standing (kept l) last)))) bs)
-      ≡ answers_to help last (l ∷ lines_from [] bs)
-  answered last l bs plain later =
-      let say : Option Command → List ℕ
-      = λ c. (answer_of help c ++ replies help (standing [] (last_of last c)) bs) ++ last_answer help (rest (standing [] (last_of last c)) bs)
-      in
-      let c = command_in last l in
-      let t : Talk = standing [] (last_of last c) in
-      ap say (kept_command last l plain)
-      ∙ append_assoc (answer_of help c) (replies help t bs) (last_answer help (rest t bs))
-      ∙ ap (λ (x : List ℕ). answer_of help c ++ x) (later (last_of last c))
-
-  from : (last : Option Channel) (l input : List ℕ) → Plain l → saying help (standing (kept l) last) input ≡ answers_to help last (lines_from l input)
-  from last [] [] plain = refl
-  from last (a ∷ l) [] plain =
+  last_left : (last : Option Channel) (l : List ℕ) → Plain l → last_answer help (standing (kept l) last) ≡ answers_to help last (last_line l)
+  last_left last [] plain = refl
+  last_left last (a ∷ l) plain =
       some_left help (standing (kept (a ∷ l)) last) (kept_some 1023 a l)
       ∙ ap (answer_of help) (kept_command last (a ∷ l) plain)
       ∙ sym (append-nil (answer_of help (command_in last (a ∷ l))))
-      ∙ ap (answers_to help last) (sym (line_left (a ∷ l) (λ e. absurd (omega (arith, e)))))
-  from last l (b ∷ bs) plain =
-      by (eqb b 10) refl (λ (later : Option Channel). from later [] bs tt) (λ (more : Plain (l ++ (b ∷ []))). from last (l ++ (b ∷ [])) bs more)
-    where
-      stands : Bool → Talk
-      stands t = cond t (standing [] (last_of last (asked (standing (kept l) last)))) (standing (kept (kept l ++ (b ∷ []))) last)
 
-      by : (t : Bool) → eqb b 10 ≡ t → ((later : Option Channel) → saying help (standing [] later) bs ≡ answers_to help later (lines_from [] bs))
-          → (Plain (l ++ (b ∷ [])) → saying help (standing (kept (l ++ (b ∷ []))) last) bs ≡ answers_to help last (lines_from (l ++ (b ∷ [])) bs))
-          → (cond t (answer_of help (asked (standing (kept l) last))) [] ++ replies help (stands t) bs) ++ last_answer help (rest (stands t) bs)
-          ≡ answers_to help last (cond t (l ∷ lines_from [] bs) (lines_from (l ++ (b ∷ [])) bs))
-      by true e later more = answered last l bs plain later
-      by false e later more =
-          ap (λ (x : List ℕ). saying help (standing x last) bs) (kept_more 1024 l (b ∷ []))
-          ∙ more (plain_more l b plain (eqb-false b 10 e))
+  -- whatever is said at the end, and whatever line is left there to be answered so
+  module _ (at_end : Talk → List ℕ) (left : List ℕ → List (List ℕ))
+      (is_left : (last : Option Channel) (l : List ℕ) → Plain l → at_end (standing (kept l) last) ≡ answers_to help last (left l)) where
+    abbrev said_from : Talk → List ℕ → List ℕ
+    said_from t bs = replies help t bs ++ at_end (rest t bs)
+
+    -- the answer to a line, and what is said after it
+    answered : (last : Option Channel) (l bs : List ℕ) → Plain l
+        → ((later : Option Channel) → said_from (standing [] later) bs ≡ answers_to help later (ended_from [] bs ++ left (unended_from [] bs)))
+        → (answer_of help (asked (standing (kept l) last)) ++ replies help (standing [] (last_of last (asked (standing (kept l) last)))) bs)
+        ++ at_end (rest (standing [] (last_of last (asked (standing (kept l) last)))) bs)
+        ≡ answers_to help last (l ∷ (ended_from [] bs ++ left (unended_from [] bs)))
+    answered last l bs plain later =
+        let say : Option Command → List ℕ
+        = λ c. (answer_of help c ++ replies help (standing [] (last_of last c)) bs) ++ at_end (rest (standing [] (last_of last c)) bs)
+        in
+        let c = command_in last l in
+        let t : Talk = standing [] (last_of last c) in
+        ap say (kept_command last l plain)
+        ∙ append_assoc (answer_of help c) (replies help t bs) (at_end (rest t bs))
+        ∙ ap (λ (x : List ℕ). answer_of help c ++ x) (later (last_of last c))
+
+    from : (last : Option Channel) (l input : List ℕ) → Plain l
+        → said_from (standing (kept l) last) input ≡ answers_to help last (ended_from l input ++ left (unended_from l input))
+    from last l [] plain = is_left last l plain
+    from last l (b ∷ bs) plain =
+        by (eqb b 10) refl (λ (later : Option Channel). from later [] bs tt) (λ (more : Plain (l ++ (b ∷ []))). from last (l ++ (b ∷ [])) bs more)
+      where
+        stands : Bool → Talk
+        stands t = cond t (standing [] (last_of last (asked (standing (kept l) last)))) (standing (kept (kept l ++ (b ∷ []))) last)
+
+        by : (t : Bool) → eqb b 10 ≡ t
+            → ((later : Option Channel) → said_from (standing [] later) bs ≡ answers_to help later (ended_from [] bs ++ left (unended_from [] bs)))
+            → (Plain (l ++ (b ∷ [])) → said_from (standing (kept (l ++ (b ∷ []))) last) bs ≡ answers_to help last (ended_from (l ++ (b ∷ [])) bs ++ left (unended_from (l ++ (b ∷ [])) bs)))
+            → (cond t (answer_of help (asked (standing (kept l) last))) [] ++ replies help (stands t) bs) ++ at_end (rest (stands t) bs)
+            ≡ answers_to help last (cond t (l ∷ ended_from [] bs) (ended_from (l ++ (b ∷ [])) bs) ++ left (cond t (unended_from [] bs) (unended_from (l ++ (b ∷ [])) bs)))
+        by true e later more = answered last l bs plain later
+        by false e later more =
+            ap (λ (x : List ℕ). said_from (standing x last) bs) (kept_more 1024 l (b ∷ []))
+            ∙ more (plain_more l b plain (eqb-false b 10 e))
 
   -- what a session says that nothing was fed to
+  pub every_read : (read : List ℕ) → replies help begun read ≡ output_so_far help read
+  every_read read =
+      sym (append-nil (replies help begun read))
+      ∙ from (λ _. []) (λ _. []) (λ _ _ _. refl) nobody [] read tt
+      ∙ ap (answers_to help nobody) (append-nil (ended read))
+
   pub every_input : (input : List ℕ) → saying help begun input ≡ output help input
-  every_input input = from nobody [] input tt
+  every_input input = from (last_answer help) last_line last_left nobody [] input tt
 
-  -- ---- chunk after chunk
+-- ---- chunk after chunk
 
-  -- `feed` says the answers of a chunk, from where the session stands before it, and leaves it where it stands after it; `finish` says the last answer
-  abbrev pub fed_with : Talk → List (List ℕ) → List ℕ
-  fed_with t chunks = dialogs.fed_with (course help) t chunks
-
-  pub every_session : (chunks : List (List ℕ)) → fed_with (standing [] nobody) chunks ≡ output help (whole chunks)
-  every_session chunks = dialogs.any_chunks (course help) (keeps help) (standing [] nobody) chunks ∙ from nobody [] (whole chunks) tt
+pub every_session : EverySession
+every_session help chunks = dialogs.any_chunks (course help) (keeps help) begun chunks ∙ every_input help (whole chunks)

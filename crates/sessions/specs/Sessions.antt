@@ -1,12 +1,13 @@
 -- What is said in a session at the console: the answer to each line, in order, and the channel that `.` stands for from line to line.
 -- Assumes nothing.
-use Rattle.std.specs.Prelude.{ℕ, cond, List, [], ◌∷◌, ◌++◌, eqb, length, take, Option, Some, None}
+use Rattle.std.specs.Prelude.{ℕ, ◌≡◌, cond, List, [], ◌∷◌, ◌++◌, eqb, length, take, Option, Some, None}
 use Rattle.call_open.specs.Open.{open_reply}
 use Rattle.call_seek.specs.Seek.{seek_reply}
 use Rattle.call_step.specs.Step.{step_reply}
 use Rattle.places.specs.Places.{reading_reply, place_of_reply, gap_reply}
-use Rattle.texts.specs.Saying.{rest_of, replies_of}
-use Rattle.line_programs.specs.Dialogs.{Course}
+use Rattle.texts.specs.Saying.{rest_of, replies_of, whole}
+use Rattle.line_programs.specs.Lines.{ended, unended}
+use Rattle.line_programs.specs.Dialogs.{Course, fed_with}
 use Rattle.machine.specs.declared.Channel.{Channel}
 use Rattle.commands.specs.Commands.{command_of}
 use Rattle.commands.specs.declared.Command.{Command}
@@ -59,14 +60,22 @@ answers_to help last [] = []
 answers_to help last (line ∷ lines) =
     answer_of help (command_in last line) ++ answers_to help (last_of last (command_in last line)) lines
 
--- The lines of an input, each without its newline, where a line has begun with some bytes. A last line that lacks its newline is one, if it has a byte.
-abbrev pub lines_from : List ℕ → List ℕ → List (List ℕ)
-lines_from line [] = cond (eqb (length line) 0) [] (line ∷ [])
-lines_from line (b ∷ bs) = cond (eqb b 10) (line ∷ lines_from [] bs) (lines_from (line ++ (b ∷ [])) bs)
+-- a last line that lacks its newline is a line, if it has a byte
+abbrev pub last_line : List ℕ → List (List ℕ)
+last_line [] = []
+last_line (b ∷ bs) = (b ∷ bs) ∷ []
+
+-- the lines of an input, each without its newline
+abbrev pub lines : List ℕ → List (List ℕ)
+lines input = ended input ++ last_line (unended input)
 
 -- the whole output for a whole input
 abbrev pub output : List ℕ → List ℕ → List ℕ
-output help input = answers_to help nobody (lines_from [] input)
+output help input = answers_to help nobody (lines input)
+
+-- what is said to some bytes, of which more may follow
+abbrev pub output_so_far : List ℕ → List ℕ → List ℕ
+output_so_far help bytes = answers_to help nobody (ended bytes)
 
 -- ---- the same byte by byte
 
@@ -116,3 +125,9 @@ begun = record { line = []; last = nobody }
 -- all that it does with bytes: what `next` keeps is all that is kept
 abbrev pub course : List ℕ → Course Talk
 course help = record { kept = λ t. t; next = next; said = said help; last = last_answer help }
+
+-- ---- every session
+
+-- However its input is cut into chunks and however long a line is, a session's output is the answers to the input's lines, in order.
+abbrev pub EverySession : Type 0
+EverySession = (help : List ℕ) (chunks : List (List ℕ)) → fed_with (course help) begun chunks ≡ output help (whole chunks)

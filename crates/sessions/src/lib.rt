@@ -4,7 +4,7 @@
 ghost use Rattle.std.specs.Prelude.{◌≡◌, ◌++◌, ◌+◌, ◌≤◌, length};
 ghost use Rattle.arrayvec.specs.ArrayVec.{array_vec_len};
 ghost use Rattle.commands.specs.Commands.{command_of};
-ghost use Rattle.sessions.specs.Sessions.{Talk as Standing, answer_of, last_of, talk, course};
+ghost use Rattle.sessions.specs.Sessions.{Talk as Standing, answer_of, last_of, talk, course, EverySession};
 ghost use Rattle.sessions.specs.Laws.{laws};
 ghost use Rattle.answer_lines.specs.declared.TheConstants.{ROOM as longest};
 
@@ -102,4 +102,11 @@ impl<'a, const N: usize> Answers<KEPT, N> for Console<'a> {
         let mut last = *last;
         self.answer(line, &mut last, out);
     }
+}
+
+// Every session: fed in any chunks, it says the answers to the input's lines, in order, however long a line is.
+#[tactic(auto, using(crate::proofs::EverySession::every_session))]
+pub fn every_session()
+    ensures { EverySession }
+{
 }

@@ -1,56 +1,57 @@
 -- EVERY INPUT of the line program, and its whole output.
+--     every_read    what is said byte by byte to some bytes is the replies to their lines, in order
+--     every_input   what is said byte by byte to an input, its end included, is its whole output
 --     in_order      the output is the replies of the input's lines, in order, and `refused 9` for what follows the last newline, if that has a byte
 --     any_chunks    it is the same however the input is cut: what the promises of `feed` and `finish` say of chunk after chunk, put together
 -- Assumes nothing.
 use Prim.Native.Nat.{ℕ}
-use mathlib.Core.List.{List, [], ◌∷◌, ◌++◌, append_assoc, append-nil}
-use mathlib.Core.Path.{◌≡◌, sym, ap, ap₂, ◌∙◌}
+use mathlib.Core.Bool.{Bool, true, false, cond}
+use mathlib.Core.List.{List, [], ◌∷◌, ◌++◌}
+use mathlib.Core.Path.{◌≡◌, refl, ap, ap₂, ◌∙◌}
+use lib.Dec.{eqb}
 use Rattle.texts.specs.Saying.{whole}
-use Rattle.texts.proofs.Saying.{Plain}
+use Rattle.gps_chips.specs.Chips.{by_the_machine}
 use Rattle.lines.specs.Lines.{line_reply}
+use Rattle.line_programs.specs.Lines.{ended_from, unended_from}
+use Rattle.line_programs.proofs.Lines.{lines_and_back}
 use Rattle.line_programs.proofs.Dialogs as dialogs
-use Rattle.streams.specs.Stream.{rest, replies, last_reply, saying, answers, course}
-use Rattle.streams.specs.Laws.{other_next, other_said, keeps}
+use Rattle.streams.specs.Stream.{replies_to, answers, answers_so_far, rest, replies, last_reply, saying, course, InOrder, AnyChunks}
+use Rattle.streams.specs.Laws.{keeps}
+
+-- ---- byte by byte
+
+replies_from : (line bs : List ℕ) → replies line bs ≡ replies_to (ended_from line bs)
+replies_from line [] = refl
+replies_from line (b ∷ bs) = by (eqb b 10) (replies_from [] bs) (replies_from (line ++ (b ∷ [])) bs)
+  where
+    by : (t : Bool) → replies [] bs ≡ replies_to (ended_from [] bs) → replies (line ++ (b ∷ [])) bs ≡ replies_to (ended_from (line ++ (b ∷ [])) bs)
+        → cond t (line_reply by_the_machine line) [] ++ replies (cond t [] (line ++ (b ∷ []))) bs ≡ replies_to (cond t (line ∷ ended_from [] bs) (ended_from (line ++ (b ∷ [])) bs))
+    by true afresh more = ap (λ (l : List ℕ). line_reply by_the_machine line ++ l) afresh
+    by false afresh more = more
+
+rest_from : (line bs : List ℕ) → rest line bs ≡ unended_from line bs
+rest_from line [] = refl
+rest_from line (b ∷ bs) = by (eqb b 10) (rest_from [] bs) (rest_from (line ++ (b ∷ [])) bs)
+  where
+    by : (t : Bool) → rest [] bs ≡ unended_from [] bs → rest (line ++ (b ∷ [])) bs ≡ unended_from (line ++ (b ∷ [])) bs
+        → rest (cond t [] (line ++ (b ∷ []))) bs ≡ cond t (unended_from [] bs) (unended_from (line ++ (b ∷ [])) bs)
+    by true afresh more = afresh
+    by false afresh more = more
+
+pub every_read : (read : List ℕ) → replies [] read ≡ answers_so_far read
+every_read read = replies_from [] read
+
+pub every_input : (input : List ℕ) → saying [] input ≡ answers input
+every_input input = ap₂ (λ (x y : List ℕ). x ++ last_reply y) (replies_from [] input) (rest_from [] input)
 
 -- ---- line after line
 
-abbrev pub AllPlain : List (List ℕ) → Type 0
-AllPlain [] = Unit {0}
-AllPlain (line ∷ lines) = Plain line × AllPlain lines
-
--- lines, each with its newline, and what follows the last one
-abbrev pub joined : List (List ℕ) → List ℕ → List ℕ
-joined [] last = last
-joined (line ∷ lines) last = line ++ (10 ∷ joined lines last)
-
-abbrev pub replies_to : List (List ℕ) → List ℕ
-replies_to [] = []
-replies_to (line ∷ lines) = line_reply line ++ replies_to lines
-
--- bytes without a newline say nothing, and are the line's
-begun : (line bs input : List ℕ) → Plain bs → saying line (bs ++ input) ≡ saying (line ++ bs) input
-begun line [] input plain = ap (λ (l : List ℕ). saying l input) (sym (append-nil line))
-begun line (b ∷ bs) input plain =
-    ap₂ (λ (now line' : List ℕ). (now ++ replies line' (bs ++ input)) ++ last_reply (rest line' (bs ++ input)))
-    (other_said line b plain.0)
-    (other_next line b plain.0)
-    ∙ begun (line ++ (b ∷ [])) bs input plain.1
-    ∙ ap (λ (l : List ℕ). saying l input) (append_assoc line (b ∷ []) bs)
-
-pub in_order : (lines : List (List ℕ)) (last : List ℕ) → AllPlain lines → Plain last → answers (joined lines last) ≡ replies_to lines ++ last_reply last
-in_order [] last all plain = ap (λ (l : List ℕ). saying [] l) (sym (append-nil last)) ∙ begun [] last [] plain
-in_order (line ∷ lines) last all plain =
-    begun [] line (10 ∷ joined lines last) all.0
-    ∙ append_assoc (line_reply line) (replies [] (joined lines last)) (last_reply (rest [] (joined lines last)))
-    ∙ ap (λ (l : List ℕ). line_reply line ++ l) (in_order lines last all.1 plain)
-    ∙ sym (append_assoc (line_reply line) (replies_to lines) (last_reply last))
+pub in_order : InOrder
+in_order lines last all plain =
+    let cut = lines_and_back.cut_again lines last all plain in
+    ap₂ (λ (ls : List (List ℕ)) (l : List ℕ). replies_to ls ++ last_reply l) cut.0 cut.1
 
 -- ---- chunk after chunk
 
--- `feed` says the replies of a chunk, from the bytes that the state before it holds, and the state after it holds what is kept of the rest; `finish` says the
--- last reply of what the last state holds
-abbrev pub fed_with : List ℕ → List (List ℕ) → List ℕ
-fed_with held chunks = dialogs.fed_with course held chunks
-
-pub any_chunks : (chunks : List (List ℕ)) → fed_with [] chunks ≡ answers (whole chunks)
-any_chunks chunks = dialogs.any_chunks course keeps [] chunks
+pub any_chunks : AnyChunks
+any_chunks chunks = dialogs.any_chunks course keeps [] chunks ∙ every_input (whole chunks)

@@ -15,6 +15,7 @@ use lib.Seq.{take_all, take-take, length-take-le}
 use borrow.Author.Tests.{leb-true, leb-false, ne_eqb}
 use Rattle.texts.specs.Texts.{refused_line}
 use Rattle.texts.proofs.Saying.{kept_more}
+use Rattle.gps_chips.specs.Chips.{by_the_machine}
 use Rattle.lines.specs.Lines.{line_reply}
 use Rattle.lines.proofs.LineReplies.{long_refused}
 use Rattle.line_programs.specs.Dialogs.{Keeps, Laws}
@@ -32,15 +33,15 @@ module _ (line : List ℕ) (b : ℕ) where
 -- ---- 56 bytes are enough
 
 -- the bytes kept of a line have its reply: a longer line than they show is refused, and so are they
-pub kept_reply : (line : List ℕ) → line_reply (kept line) ≡ line_reply line
+pub kept_reply : (line : List ℕ) → line_reply by_the_machine (kept line) ≡ line_reply by_the_machine line
 kept_reply line = by (leb (length line) 56) refl
   where
-    by : (t : Bool) → leb (length line) 56 ≡ t → line_reply (kept line) ≡ line_reply line
-    by true e = ap line_reply (take_all 56 line (leb-true (length line) 56 e))
+    by : (t : Bool) → leb (length line) 56 ≡ t → line_reply by_the_machine (kept line) ≡ line_reply by_the_machine line
+    by true e = ap (line_reply by_the_machine) (take_all 56 line (leb-true (length line) 56 e))
     by false e =
         let long : 56 < length line = leb-false (length line) 56 e in
         let cut : length (kept line) ≡ 56 = length-take-le 56 line (omega (arith, long)) in
-        long_refused (kept line) (omega (arith, cut)) ∙ sym (long_refused line (omega (arith, long)))
+        long_refused by_the_machine (kept line) (omega (arith, cut)) ∙ sym (long_refused by_the_machine line (omega (arith, long)))
 
 kept_said : (line : List ℕ) (b : ℕ) → said (kept line) b ≡ said line b
 kept_said line b = ap (λ (r : List ℕ). cond (eqb b 10) r []) (kept_reply line)

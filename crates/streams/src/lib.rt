@@ -2,7 +2,7 @@
 #![tactic(auto)]
 
 ghost use Rattle.std.specs.Prelude.{ℕ, List};
-ghost use Rattle.streams.specs.Stream.{course};
+ghost use Rattle.streams.specs.Stream.{course, InOrder, AnyChunks};
 ghost use Rattle.streams.specs.Laws.{laws};
 ghost use Rattle.lines.specs.declared.TheConstants.{ROOM as longest};
 
@@ -50,4 +50,20 @@ impl<const N: usize> Answers<KEPT, N> for Replies {
     fn answer_last(&self, _line: &[u8], _memory: &(), out: &mut ArrayVec<u8, N>) {
         texts::append_refused(Refusal::Line, out);
     }
+}
+
+// ---- every input
+
+// Every input: the output is the replies to its lines, in order, and `refused 9` for what follows the last newline, if that has a byte.
+#[tactic(auto, using(crate::proofs::EveryInput::in_order))]
+pub fn in_order()
+    ensures { InOrder }
+{
+}
+
+// Every cut: fed in any chunks, a stream says what it says to the whole input.
+#[tactic(auto, using(crate::proofs::EveryInput::any_chunks))]
+pub fn any_chunks()
+    ensures { AnyChunks }
+{
 }
