@@ -1,8 +1,8 @@
 // A seek: the channel of a signal and PRN at any place of the week. Its generators are brought there by leaps, X2A and X2B to 37 places before, from where
-// single steps of these two fill the delay line.
+// single steps of these two fill the delay line. Leaps and single steps are counted, and both counts are promised.
 #![tactic(auto)]
 
-ghost use Rattle.std.specs.Prelude.{◌≡◌, ◌-◌, ◌<◌, ◌≤◌, ◌^◌};
+ghost use Rattle.std.specs.Prelude.{◌≡◌, ◌+◌, ◌-◌, ◌<◌, ◌≤◌, ◌^◌, min};
 ghost use Rattle.machine.specs.Signals.{week_ca, week_p, week_l2, week_l5, week_of};
 ghost use Rattle.machine.specs.Signals.{x2a, x2b};
 ghost use Rattle.machine.specs.Signals.{signal_ca, signal_p, from_l5};
@@ -11,15 +11,23 @@ ghost use Rattle.week.specs.Week.{course_x2a, course_x2b};
 ghost use Rattle.week.specs.Week.{courses_ca, courses_p, courses_l5};
 ghost use Rattle.signals.specs.Signals.{number_of};
 ghost use Rattle.steps.specs.Inner.{from_l2};
+ghost use Rattle.seeks.specs.Leaps.{FewLeaps, AtMost44};
+ghost use Rattle.seeks.specs.Steps.{single_steps};
 ghost use Rattle.seeks.specs.Inner.{Filled, plain_landed, course_l2, courses_l2, landed, landed_at};
 
 use generators::{Cl, Cm};
+use leaps::Leaps;
 use machine::{Channel, Generator};
 use registers::{G1, G2, X1A, X1B, X2A, X2B, XA, XB};
 use signals::{Prn, Signal};
 use starts::FixedStart;
 use steps::L2Code;
 use week::Coursed;
+
+mod fills;
+
+use fills::Fill;
+pub use fills::SingleSteps;
 
 // E, the chips of an epoch of P.
 const EPOCH_P: u64 = 15_345_000;
@@ -28,14 +36,6 @@ const EPOCH_P: u64 = 15_345_000;
 const LINE_BITS: u64 = 37;
 
 // ---- the delay line
-
-// X2A, X2B and the delay line.
-#[derive(Clone, Copy, Debug, PartialEq, Eq)]
-pub struct Fill {
-    pub third: Generator,
-    pub fourth: Generator,
-    pub delay: u64,
-}
 
 // The place from which the delay line is filled: as many places before as it has bits, or place 0.
 fn filled_from(place: u64) -> u64
@@ -49,25 +49,23 @@ fn filled_from(place: u64) -> u64
 #[inline(never)]
 fn fill_line(from: u64, place: u64, third: Generator, fourth: Generator) -> Fill
     requires from_first { from ≤ place }
+    requires few { place ≤ from + 37 }
     requires place_in_week { place < week_p }
     requires third_there { third ≡ generator_at x2a course_x2a from }
     requires fourth_there { fourth ≡ generator_at x2b course_x2b from }
     ensures { Filled from place result }
 {
-    let mut x2a = third;
-    let mut x2b = fourth;
-    let mut line = machine::LINE_LIMIT - 1;
+    let mut fill = Fill {
+        third,
+        fourth,
+        delay: machine::LINE_LIMIT - 1,
+        steps: SingleSteps::none(),
+    };
     for at in from..place {
         let week_end = machine::LAST_CYCLE_X1A <= at + 1;
-        line = steps::next_line(x2a.register, x2b.register, line);
-        x2a = generators::step::<X2A>(x2a, X2A::START, week_end);
-        x2b = generators::step::<X2B>(x2b, X2B::START, week_end);
+        fill = fill.step(week_end);
     }
-    Fill {
-        third: x2a,
-        fourth: x2b,
-        delay: line,
-    }
+    fill
 }
 
 // ---- a channel at a place. That the place lies in the week is a clause of each that seeks: another signal has another week. Signal, PRN and
@@ -78,6 +76,24 @@ fn fill_line(from: u64, place: u64, third: Generator, fourth: Generator) -> Fill
 pub struct Sought {
     pub leaps: u32,
     pub channel: Channel,
+}
+
+// What a seek answers, and how many single steps it took, of X2A and of X2B each. The call seek answers the first alone.
+#[derive(Clone, Copy, Debug, PartialEq, Eq)]
+pub struct Landed {
+    pub sought: Sought,
+    pub steps: SingleSteps,
+}
+
+// A channel that was brought to its place by leaps alone.
+fn by_leaps_alone(sought: Sought) -> Landed
+    ensures sought { result.sought ≡ sought }
+    ensures steps { result.steps ≡ 0 }
+{
+    Landed {
+        sought,
+        steps: SingleSteps::none(),
+    }
 }
 
 // A signal with at most two generators, which are handed in. What it lacks is 0 and running.
@@ -110,18 +126,26 @@ fn land_ca(prn: Prn, place: u64) -> Sought
     requires { place < week_ca }
     ensures { result ≡ landed (signal_ca prn.number) courses_ca 1 prn.number place }
 {
-    let g1 = generators_at::seek::<G1>(G1::START, place, 0);
+    let g1 = generators_at::seek::<G1>(G1::START, place, Leaps::none());
     let g2 = generators_at::seek::<G2>(G2::START, place, g1.count);
-    plain_at(Signal::Ca, prn, place, g1.value, g2.value, g2.count)
+    plain_at(
+        Signal::Ca,
+        prn,
+        place,
+        g1.value,
+        g2.value,
+        g2.count.number(),
+    )
 }
 
 // P, whose delay line is filled from the places before.
-fn land_p(prn: Prn, place: u64) -> Sought
+fn land_p(prn: Prn, place: u64) -> Landed
     requires { place < week_p }
-    ensures { result ≡ landed (signal_p prn.number) courses_p 2 prn.number place }
+    ensures sought { result.sought ≡ landed (signal_p prn.number) courses_p 2 prn.number place }
+    ensures steps { result.steps ≡ min 37 place }
 {
     let from = filled_from(place);
-    let x1a = generators_at::seek::<X1A>(X1A::START, place, 0);
+    let x1a = generators_at::seek::<X1A>(X1A::START, place, Leaps::none());
     let x1b = generators_at::seek::<X1B>(X1B::START, place, x1a.count);
     let x2a = generators_at::seek::<X2A>(X2A::START, from, x1b.count);
     let x2b = generators_at::seek::<X2B>(X2B::START, from, x2a.count);
@@ -137,9 +161,13 @@ fn land_p(prn: Prn, place: u64) -> Sought
         third: filled.third,
         fourth: filled.fourth,
     };
-    Sought {
-        leaps: x2b.count,
+    let sought = Sought {
+        leaps: x2b.count.number(),
         channel,
+    };
+    Landed {
+        sought,
+        steps: filled.steps,
     }
 }
 
@@ -150,9 +178,9 @@ fn land_l2<C: L2Code + Coursed>(signal: Signal, prn: Prn, start: u32, place: u64
     requires by_whole_cycles { C.course ≡ course_l2 C.cycle }
     ensures { result ≡ landed (from_l2 C.is_first C.cycle start) (courses_l2 C.is_first C.cycle) (number_of signal) prn.number place }
 {
-    let own = generators_at::seek::<C>(start, place, 0);
+    let own = generators_at::seek::<C>(start, place, Leaps::none());
     let none = generators::fresh_generator(0, 0);
-    let lacking = plain_at(signal, prn, place, none, none, own.count);
+    let lacking = plain_at(signal, prn, place, none, none, own.count.number());
     Sought {
         channel: C::with_own(lacking.channel, own.value),
         ..lacking
@@ -165,23 +193,41 @@ fn land_l5(signal: Signal, prn: Prn, start: u32, place: u64) -> Sought
     requires place_in_week { place < week_l5 }
     ensures { result ≡ landed (from_l5 start) courses_l5 (number_of signal) prn.number place }
 {
-    let xa = generators_at::seek::<XA>(XA::START, place, 0);
+    let xa = generators_at::seek::<XA>(XA::START, place, Leaps::none());
     let xb = generators_at::seek::<XB>(start, place, xa.count);
-    plain_at(signal, prn, place, xa.value, xb.value, xb.count)
+    plain_at(signal, prn, place, xa.value, xb.value, xb.count.number())
 }
 
-// The channel of a signal and a PRN at a place of the week, which has to lie below the signal's W. An arm for each signal: the compiler names each `match`
-// that lacks one.
+// The channel of a signal and a PRN at a place of the week, which has to lie below the signal's W, with its leaps and its single steps counted. An arm for each
+// signal: the compiler names each `match` that lacks one.
+pub fn land_counted(signal: Signal, prn: Prn, place: u64) -> Landed
+    requires { place < week_of (number_of signal) }
+    ensures sought { result.sought ≡ landed_at (number_of signal) prn.number place }
+    ensures steps { result.steps ≡ single_steps (number_of signal) prn.number place }
+{
+    match signal {
+        Signal::Ca => by_leaps_alone(land_ca(prn, place)),
+        Signal::P => land_p(prn, place),
+        Signal::L2Cm => by_leaps_alone(land_l2::<Cm>(signal, prn, starts::start_cm(prn), place)),
+        Signal::L2Cl => by_leaps_alone(land_l2::<Cl>(signal, prn, starts::start_cl(prn), place)),
+        Signal::I5 => by_leaps_alone(land_l5(signal, prn, starts::start_i5(prn), place)),
+        Signal::Q5 => by_leaps_alone(land_l5(signal, prn, starts::start_q5(prn), place)),
+    }
+}
+
+// The same, with the leaps alone told, as the call seek tells them.
 pub fn land(signal: Signal, prn: Prn, place: u64) -> Sought
     requires { place < week_of (number_of signal) }
     ensures { result ≡ landed_at (number_of signal) prn.number place }
 {
-    match signal {
-        Signal::Ca => land_ca(prn, place),
-        Signal::P => land_p(prn, place),
-        Signal::L2Cm => land_l2::<Cm>(signal, prn, starts::start_cm(prn), place),
-        Signal::L2Cl => land_l2::<Cl>(signal, prn, starts::start_cl(prn), place),
-        Signal::I5 => land_l5(signal, prn, starts::start_i5(prn), place),
-        Signal::Q5 => land_l5(signal, prn, starts::start_q5(prn), place),
-    }
+    land_counted(signal, prn, place).sought
 }
+
+// ---- a law
+
+// A seek makes at most 44 leaps, to whatever place: 18 for C/A, 44 for P, 13 for L2 CM, 19 for L2 CL, 24 for I5 and Q5.
+#[tactic(auto, using(crate::proofs::FewLeaps::few_leaps, crate::proofs::FewLeaps::at_most_44))]
+pub fn few_leaps()
+    ensures by_signal { FewLeaps }
+    ensures at_most_44 { AtMost44 }
+{}

@@ -4,4 +4,4 @@ use Rattle.seeks.specs.Inner.{Filled}
 use Rattle.seeks.proofs.fill_line.Given as goal
 
 abbrev pub invariant-loop-at : goal.invariant-loop-at
-invariant-loop-at l = Filled l.fn.from l.at (record { third = l.x2a; fourth = l.x2b; delay = l.line })
+invariant-loop-at l = Filled l.fn.from l.at l.fill

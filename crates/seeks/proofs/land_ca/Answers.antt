@@ -12,8 +12,8 @@ use Rattle.seeks.proofs.land_ca.Goals as goal
 
 pub seek-g2-requires : goal.seek-g2-requires
 seek-g2-requires c =
-    let few = counts_few g1 course_g c.args.place 0 10 c.seek-g1.result c.seek-g1.ensures (lit< tt) (lit≤ tt) in
-    record { start_in = lit< tt; asked = record { place_in = c.requires; count_in = omega (arith, few) } }
+    let few = counts_few g1 course_g c.args.place _ 10 c.seek-g1.result c.seek-g1.ensures (lit< tt) (lit≤ tt) in
+    record { start_in = lit< tt; asked = record { place_in = c.requires; count_in = omega (arith, few, c.none.ensures) } }
 
 pub returns : goal.returns
 returns c =
@@ -22,4 +22,4 @@ returns c =
     ∙ plain_landed_lem week_ca g1 g2 course_g course_g _ 1 a.prn.number a.place c.requires _ _ _
     (ap (λ (x : Counted Generator). x.value) c.seek-g1.ensures)
     (ap (λ (x : Counted Generator). x.value) c.seek-g2.ensures)
-    (omega (arith, ap (λ (x : Counted Generator). x.count) c.seek-g1.ensures, ap (λ (x : Counted Generator). x.count) c.seek-g2.ensures))
+    (omega (arith, c.none.ensures, c.number.ensures, ap (λ (x : Counted Generator). x.count) c.seek-g1.ensures, ap (λ (x : Counted Generator). x.count) c.seek-g2.ensures))

@@ -12,8 +12,8 @@ use Rattle.seeks.proofs.land_l5.Goals as goal
 
 pub seek-xb-requires : goal.seek-xb-requires
 seek-xb-requires c =
-    let few = counts_few xa course_xa c.args.place 0 13 c.seek-xa.result c.seek-xa.ensures (lit< tt) (lit≤ tt) in
-    record { start_in = c.requires.start_in_register; asked = record { place_in = c.requires.place_in_week; count_in = omega (arith, few) } }
+    let few = counts_few xa course_xa c.args.place _ 13 c.seek-xa.result c.seek-xa.ensures (lit< tt) (lit≤ tt) in
+    record { start_in = c.requires.start_in_register; asked = record { place_in = c.requires.place_in_week; count_in = omega (arith, few, c.none.ensures) } }
 
 pub returns : goal.returns
 returns c =
@@ -22,4 +22,4 @@ returns c =
     ∙ plain_landed_lem week_l5 xa (xb a.start) course_xa course_xb _ _ a.prn.number a.place c.requires.place_in_week _ _ _
     (ap (λ (x : Counted Generator). x.value) c.seek-xa.ensures)
     (ap (λ (x : Counted Generator). x.value) c.seek-xb.ensures)
-    (omega (arith, ap (λ (x : Counted Generator). x.count) c.seek-xa.ensures, ap (λ (x : Counted Generator). x.count) c.seek-xb.ensures))
+    (omega (arith, c.none.ensures, c.number.ensures, ap (λ (x : Counted Generator). x.count) c.seek-xa.ensures, ap (λ (x : Counted Generator). x.count) c.seek-xb.ensures))
