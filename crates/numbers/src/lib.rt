@@ -10,7 +10,7 @@ use arrayvec::ArrayVec;
 
 // ---- written
 
-// A number and the mark behind it, put behind what stands there: 21 bytes at most.
+// A number and the mark behind it, put behind what stands there: 21 bytes at most. Where the mark is no digit, what is put is read back as that number.
 #[tactic(auto, using(crate::proofs::Numbers::word_put, crate::proofs::Numbers::number_short, crate::proofs::Numbers::put_read))]
 pub fn put_number<const N: usize>(n: u64, mark: u8, out: &mut ArrayVec<u8, N>)
     requires room { array_vec_len out.old + 21 ≤ N }
@@ -54,7 +54,7 @@ fn read_digits(text: &[u8], first: u64, most: u64, mark: u8) -> Option<(u64, &[u
     None
 }
 
-// A number of at most `most`, up to its mark.
+// A number of at most `most`, up to its mark. What is read as a number is the word that `put_number` writes of it.
 #[tactic(auto, using(crate::proofs::Bytes::nothing_there, crate::proofs::Bytes::no_first, crate::proofs::Bytes::first_digit))]
 pub fn read_number(text: &[u8], most: u64, mark: u8) -> Option<(u64, &[u8])>
     requires { 9 ≤ most }

@@ -7,19 +7,16 @@ ghost use Rattle.standard.specs.Laws.{SameRegisters, EveryChip, EveryWindow};
 #[tactic(auto, using(crate::proofs::SameRegisters::same_registers))]
 pub fn same_registers()
     ensures { SameRegisters }
-{
-}
+{}
 
 // Each chip of each signal, PRN 1 to 37, at each place of the week is that of IS-GPS-200 or IS-GPS-705.
 #[tactic(auto, using(crate::proofs::EveryChip::every_chip))]
 pub fn every_chip()
     ensures { EveryChip }
-{
-}
+{}
 
 // And so is each of any number of chips from any place on, round the week.
 #[tactic(auto, using(crate::proofs::EveryChip::every_window))]
 pub fn every_window()
     ensures { EveryWindow }
-{
-}
+{}

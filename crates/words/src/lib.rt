@@ -10,7 +10,8 @@ ghost use Rattle.words.specs.Words.{mode_word, generator_word, generators_word, 
 use arrayvec::ArrayVec;
 use machine::{Channel, Generator, Mode};
 
-// ---- words written: each behind what stands there, and its mark behind it. Room is asked for, and text appended, as `texts` says.
+// ---- words written: each behind what stands there, and its mark behind it. Room is asked for, and text appended, as `texts` says. `fits` says of the fields
+// what their types do: they hold no number that their reader would refuse.
 
 // A number that a field of 32 bits holds.
 fn put_32<const N: usize>(n: u32, mark: u8, out: &mut ArrayVec<u8, N>)
@@ -67,7 +68,7 @@ fn put_generators<const N: usize>(ch: Channel, mark: u8, out: &mut ArrayVec<u8, 
     put_generator(ch.fourth, mark, out);
 }
 
-// A channel of any field values, `SIGNAL/PRN/PLACE/EPOCH/DELAY/A/B/C/D`: 445 bytes at most, its mark among them.
+// A channel of any field values, `SIGNAL/PRN/PLACE/EPOCH/DELAY/A/B/C/D`: 445 bytes at most, its mark among them. Where that is no digit, what is put is read back.
 #[tactic(auto, using(crate::proofs::Writing::channel_put, crate::proofs::Writing::channel_fits, crate::proofs::RoundTrip::put_read))]
 pub fn put_channel<const N: usize>(ch: Channel, mark: u8, out: &mut ArrayVec<u8, N>)
     requires room { array_vec_len out.old + 445 ≤ N }
@@ -140,7 +141,7 @@ fn read_generator(text: &[u8], mark: u8) -> Option<(Generator, &[u8])>
     Some((generator, rest))
 }
 
-// A channel of any field values, up to its mark.
+// A channel of any field values, up to its mark. What is read as a channel is the word that `put_channel` writes of it.
 #[tactic(auto, using(crate::proofs::RoundTrip::read_back), unfolding(crate::specs::Words::read_channel))]
 pub fn read_channel(text: &[u8], mark: u8) -> Option<(Channel, &[u8])>
     ensures value { of_read result ≡ read_channel mark text.now }
