@@ -4,7 +4,7 @@
 --     along_start, along_on   it holds at the start, and after one call more
 --     along_at_end            at the end no call is left
 -- Assumes nothing.
-use Rattle.std.proofs.Common.{◌≡◌, ℕ, List, [], ◌∷◌, ◌++◌, refl, sym, ap, ap₂, subst, ◌∙◌, append-nil, append_assoc, ◌+◌, ◌<◌, ◌≤◌, length, get_or, drop, add-one, drop-cons}
+use Rattle.std.proofs.Common.{◌≡◌, ℕ, List, [], ◌∷◌, ◌++◌, refl, sym, ap₂, subst, ◌∙◌, append-nil, append_assoc, ◌+◌, ◌<◌, ◌≤◌, length, get_or, drop, add-one, drop-cons}
 use Rattle.std.proofs.Math.ListN.{drop_of_length-le}
 use Rattle.machine.specs.declared.Channel.{Channel}
 use Rattle.replies.specs.Reply.{Reply}
