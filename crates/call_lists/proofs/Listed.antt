@@ -3,14 +3,14 @@
 --     opens                                    the channel is the opened one
 --     replies_told, list_right, memory_right   what `run` promises, once no call is left
 -- Assumes nothing.
-use Rattle.std.proofs.Common.{◌≡◌, ℕ, List, [], ◌∷◌, ◌++◌, refl, sym, ap, ap₂, subst, ◌∙◌, true, append-nil}
+use Rattle.std.proofs.Common.{◌≡◌, ℕ, List, [], ◌∷◌, refl, sym, ap, ap₂, subst, ◌∙◌, true, append-nil}
 use Rattle.machine.specs.Machine.{opened, is_signal, is_prn}
 use Rattle.machine.specs.declared.Channel.{Channel}
 use Rattle.machine.proofs.Advance.{advance_none}
 use Rattle.replies.specs.Reply.{Reply}
 use Rattle.call_open.specs.Open.{open_reply, channel}
 use Rattle.call_open.proofs.Opens.{open_accepted}
-use Rattle.lists.specs.Lists.{Call, reply_to, replies, handed_back, place_after, leaves, ListOfCalls}
+use Rattle.lists.specs.Lists.{Call, reply_to, replies, handed_back, place_after, ListOfCalls}
 use Rattle.lists.proofs.EveryList.{every_list}
 use Rattle.lists.proofs.OneCall.{none_done, machine_at, Right, call_right}
 use Rattle.call_lists.specs.declared.Call as listed_call

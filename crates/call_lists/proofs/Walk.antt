@@ -4,7 +4,7 @@
 --     along_start, along_on   it holds at the start, and after one call more
 --     along_at_end            at the end no call is left
 -- Assumes nothing.
-use Rattle.std.proofs.Common.{◌≡◌, ℕ, List, [], ◌∷◌, ◌++◌, refl, sym, ap, ap₂, subst, ◌∙◌, append-nil, append_assoc, ◌+◌, ◌<◌, ◌≤◌, length, get_or, drop, add-one, drop-cons}
+use Rattle.std.proofs.Common.{◌≡◌, ℕ, List, [], ◌∷◌, ◌++◌, refl, sym, ap₂, subst, ◌∙◌, append-nil, append_assoc, ◌+◌, ◌<◌, ◌≤◌, length, get_or, drop, add-one, drop-cons}
 use Rattle.std.proofs.Math.ListN.{drop_of_length-le}
 use Rattle.machine.specs.declared.Channel.{Channel}
 use Rattle.replies.specs.Reply.{Reply}
@@ -46,7 +46,7 @@ module _ {A : Type 0} (has_heard : A → List Reply → Type 0) where
   told_more a b c some more s m history heard = subst (has_heard c) (append_assoc history some more) (m (history ++ some) (s history heard))
 
   pub along_start : (a : A) (ch : Channel) (memory : List ℕ) (all : List listed_call.Call) → Along has_heard a a ch ch memory memory all all
-  along_start a ch memory all = record { back = refl; left = refl; so_far = []; told = none_told a; whole = refl; }
+  along_start a ch memory all = record { back = refl; left = refl; so_far = []; told = none_told a; whole = refl }
 
   pub along_on : (start here next : A) (from ch after : Channel) (first memory then : List ℕ) (all : List listed_call.Call) (i : ℕ) (c : listed_call.Call)
       → i < length all

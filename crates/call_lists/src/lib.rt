@@ -2,7 +2,7 @@
 // memory, and whoever listens is told each reply. `run` promises of the whole list what `lists` sets out.
 #![tactic(auto)]
 
-ghost use Rattle.std.specs.Prelude.{◌≡◌, ◌+◌, ◌++◌, cond, length, List, [], ◌∷◌, OnOk, OnErr, IfOk, IfErr};
+ghost use Rattle.std.specs.Prelude.{◌≡◌, ◌+◌, ◌-◌, ◌^◌, min, cond, length, List, [], ◌∷◌, OnOk, OnErr, IfOk, IfErr};
 ghost use Rattle.machine.specs.Machine.{opened};
 ghost use Rattle.refusals.specs.Refusal.{number_of};
 ghost use Rattle.replies.specs.Reply.{Reply};
@@ -98,12 +98,7 @@ fn window_part<T: Listener>(
 }
 
 // One call of a list, on any channel: an arm for each kind.
-pub fn make<T: Listener>(
-    ch: Channel,
-    call: Call,
-    memory: &mut [u8],
-    listener: &mut T,
-) -> Channel
+pub fn make<T: Listener>(ch: Channel, call: Call, memory: &mut [u8], listener: &mut T) -> Channel
     ensures back { result ≡ (reply_to ch (call_of memory.old call)).channel }
     ensures told { Told T.has_heard listener.old listener.new (reply_to ch (call_of memory.old call) ∷ []) }
     ensures memory { memory.new ≡ put_back call (reply_to ch (call_of memory.old call)).buffers memory.old }
@@ -160,9 +155,8 @@ pub fn run<T: Listener>(
 mod tests {
     use super::*;
 
-    ghost use Rattle.std.specs.Prelude.{min, ◌^◌, ◌-◌};
-
     // It keeps how many replies it was told.
+    #[derive(Drop)]
     struct Counter {
         told: u64,
     }
@@ -186,7 +180,13 @@ mod tests {
             self.count();
         }
 
-        fn windowed(&mut self, _count: u64, _at: u64, _buffer: &[u8], _answer: Result<Channel, Refused>) {
+        fn windowed(
+            &mut self,
+            _count: u64,
+            _at: u64,
+            _buffer: &[u8],
+            _answer: Result<Channel, Refused>,
+        ) {
             self.count();
         }
     }
@@ -199,9 +199,21 @@ mod tests {
         let nowhere = Part { start: 6, len: 5 };
         let calls = [
             Call::Step,
-            Call::Window { count: 5, part: first, at: 1 },
-            Call::Window { count: 1, part: nowhere, at: 0 },
-            Call::Window { count: 4, part: second, at: 0 },
+            Call::Window {
+                count: 5,
+                part: first,
+                at: 1,
+            },
+            Call::Window {
+                count: 1,
+                part: nowhere,
+                at: 0,
+            },
+            Call::Window {
+                count: 4,
+                part: second,
+                at: 0,
+            },
             Call::Seek { place: u64::MAX },
         ];
         let mut memory = [7u8; 10];
