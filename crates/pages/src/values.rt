@@ -14,6 +14,10 @@ pub enum Value {
     // The stages of a register of the signal with this number. Any number is shown: a `Signal` would ask more of callers.
     Register { signal: u64, stages: u32 },
     Mode(Mode),
+    // Two stages of a register, each at the right of two columns.
+    Stages { first: u32, second: u32 },
+    // A code delay in chips, at the right of five columns.
+    Delay(u64),
     // What a step gives: the opened channel, or another one.
     Opened,
     Another,
@@ -27,6 +31,8 @@ impl fmt::Display for Value {
             Value::Chip(n) => write!(f, "{n:>4}"),
             Value::Register { signal, stages } => write_register(f, signal, stages),
             Value::Mode(mode) => write_mode(f, mode),
+            Value::Stages { first, second } => write!(f, "{first:>2} {second:>2}"),
+            Value::Delay(chips) => write!(f, "{chips:>5}"),
             Value::Opened => write!(f, "the opened channel"),
             Value::Another => write!(f, "another channel"),
         }

@@ -1,0 +1,2 @@
+-- What is seen of a channel that the calls give, and of a gap.
+pub mod States
