@@ -1,7 +1,8 @@
 -- The rule of a table of leaps, a test that is made once over the whole table, and what it says of each entry.
 -- f is the shift of a register of s stages; t is the table, n rows of s numbers one after the other.
 -- Assumes nothing.
-use Rattle.std.specs.Prelude.{ℕ, zero, suc, ◌+◌, ◌*◌, ◌^◌, ◌<◌, ◌≡◌, Bool, true, false, ◌&&◌, List, [], ◌∷◌, map, eqb, get_or, take, drop}
+use Rattle.std.specs.Prelude.{ℕ, zero, suc, ◌+◌, ◌*◌, ◌^◌, ◌<◌, ◌≡◌, Bool, true, false, ◌&&◌, eqb}
+use Rattle.std.specs.Prelude.{List, [], ◌∷◌, map, get_or, take, drop}
 use Rattle.registers.specs.Times.{times}
 use Rattle.registers.specs.Row.{combine, columns}
 

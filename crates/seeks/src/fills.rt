@@ -10,8 +10,8 @@ use registers::{X2A, X2B};
 use starts::FixedStart;
 use std::marker::Model;
 
-// How many single steps were taken. The number is private, so that outside this file it can be begun at none, carried on and read, and nothing else: it rises by
-// one in `Fill::step`, which takes one, and nowhere else.
+// How many single steps were taken. The number is private, so that outside this file it can be begun at none, carried on and read, and nothing else: it rises
+// by one in `Fill::step`, which takes one, and nowhere else.
 #[derive(Clone, Copy, Debug, PartialEq, Eq)]
 pub struct SingleSteps {
     taken: u32,
@@ -54,6 +54,8 @@ pub struct Fill {
 
 impl Fill {
     // One single step of X2A and of X2B: the line takes in the X2 chip that they gave before it. It is the one function of this crate that steps a generator.
+    // Inlined, so that the loop of `fill_line` keeps to registers.
+    #[inline(always)]
     pub(crate) fn step(self, week_end: bool) -> Fill
         requires third_in { RangedKind x2a self.third }
         requires fourth_in { RangedKind x2b self.fourth }

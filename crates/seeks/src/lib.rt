@@ -86,6 +86,7 @@ pub struct Landed {
 }
 
 // A channel that was brought to its place by leaps alone.
+#[inline(always)]
 fn by_leaps_alone(sought: Sought) -> Landed
     ensures sought { result.sought ≡ sought }
     ensures steps { result.steps ≡ 0 }
@@ -198,8 +199,9 @@ fn land_l5(signal: Signal, prn: Prn, start: u32, place: u64) -> Sought
     plain_at(signal, prn, place, xa.value, xb.value, xb.count.number())
 }
 
-// The channel of a signal and a PRN at a place of the week, which has to lie below the signal's W, with its leaps and its single steps counted. An arm for each
-// signal: the compiler names each `match` that lacks one.
+// The channel of a signal and a PRN at a place of the week, which has to lie below the signal's W, with its leaps and its single steps counted. An arm for
+// each signal: the compiler names each `match` that lacks one.
+#[inline(always)]
 pub fn land_counted(signal: Signal, prn: Prn, place: u64) -> Landed
     requires { place < week_of (number_of signal) }
     ensures sought { result.sought ≡ landed_at (number_of signal) prn.number place }
