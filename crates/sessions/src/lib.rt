@@ -114,7 +114,6 @@ pub fn every_session()
 
 // Every script: lines that open a channel and then ask for calls on `.` are answered with the texts of that list of calls, and leave `.` at the channel that it
 // hands back. What holds of every list of calls is in `lists`.
-#[tactic(auto, using(crate::proofs::EveryScript::every_script))]
 pub fn every_script()
     ensures { EveryScript }
 {
