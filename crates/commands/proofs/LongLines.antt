@@ -23,6 +23,7 @@ use Rattle.words.specs.Words.{mode_word, generator_word, generators_word, channe
 use Rattle.numbers.proofs.Numbers.{digits_short, number_short, small64, number_back}
 use Rattle.words.proofs.RoundTrip.{back}
 use Rattle.words.proofs.Writing.{channel_short}
+use Rattle.commands.specs.LongLines.{LongLines}
 use Rattle.commands.specs.Commands.{begins, argument, last_argument, read_named, read_open, read_seek, read_step, read_window, read_chips, read_reading, read_place_of, read_gap, open_word, seek_word, step_word, window_word, chips_word, reading_word, place_of_word, gap_word, command_of}
 use Rattle.commands.specs.declared.Command.{Command}
 use Rattle.commands.specs.declared.Command.TheVariants as commands
@@ -260,7 +261,7 @@ either : (t : Bool) (x y : Option Command) → x ≡ None → y ≡ None → con
 either true x y e f = e
 either false x y e f = f
 
-pub late : (last : Option Channel) (l : List ℕ) → Plain (take 640 l) → command_of last l ≡ None
+pub late : LongLines
 unfolding command_of
 late last l plain =
     let behind : (j : ℕ) → j + 600 ≤ 640 → Plain (take 600 (drop j l)) = λ (j : ℕ) (h : j + 600 ≤ 640). plain_behind j 600 640 l h plain in

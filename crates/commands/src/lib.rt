@@ -4,6 +4,7 @@
 ghost use Rattle.std.specs.Prelude.{◌≡◌, true, false, length, drop, MatchOption};
 ghost use Rattle.numbers.specs.Numbers.{of_read};
 ghost use Rattle.commands.specs.Commands.{begins, two_arguments, three_arguments, read_named, read_seek, read_step, read_window, read_chips, command_of};
+ghost use Rattle.commands.specs.LongLines.{LongLines};
 
 use machine::Channel;
 
@@ -132,4 +133,11 @@ pub fn command_in(line: &[u8], last: Option<Channel>) -> Option<Command>
     }
     behind(line, b"help\n")?;
     Some(Command::Help)
+}
+
+// The law of long lines: no command is longer than 640 bytes.
+#[tactic(auto, using(crate::proofs::LongLines::late))]
+pub fn long_lines()
+    ensures { LongLines }
+{
 }

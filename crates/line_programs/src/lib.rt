@@ -288,7 +288,7 @@ fn put_all<W: Sink>(output: &mut W, bytes: &[u8]) -> io::Result<()>
     while !rest.is_empty() {
         let taken = put_again(output, rest)?;
         if taken == 0 {
-            return Err(io::Error::from(io::ErrorKind::WriteZero));
+            return Err(io::Error::new(io::ErrorKind::WriteZero, "failed to write whole buffer"));
         }
         rest = &rest[taken..];
     }

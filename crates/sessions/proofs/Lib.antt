@@ -1,2 +1,3 @@
--- `EverySession` is the theorem.
+-- `EverySession` and `EveryScript` are the theorems.
 pub mod EverySession
+pub mod EveryScript

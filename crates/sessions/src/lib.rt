@@ -5,6 +5,7 @@ ghost use Rattle.std.specs.Prelude.{◌≡◌, ◌++◌, ◌+◌, ◌≤◌, len
 ghost use Rattle.arrayvec.specs.ArrayVec.{array_vec_len};
 ghost use Rattle.commands.specs.Commands.{command_of};
 ghost use Rattle.sessions.specs.Sessions.{Talk as Standing, answer_of, last_of, talk, course, EverySession};
+ghost use Rattle.sessions.specs.Scripts.{EveryScript};
 ghost use Rattle.sessions.specs.Laws.{laws};
 ghost use Rattle.answer_lines.specs.declared.TheConstants.{ROOM as longest};
 
@@ -108,5 +109,12 @@ impl<'a, const N: usize> Answers<KEPT, N> for Console<'a> {
 #[tactic(auto, using(crate::proofs::EverySession::every_session))]
 pub fn every_session()
     ensures { EverySession }
+{
+}
+
+// Every script: lines that open a channel and then ask for calls on `.` are answered with the texts of that list of calls, and leave `.` at the channel that it
+// hands back. What holds of every list of calls is in `lists`.
+pub fn every_script()
+    ensures { EveryScript }
 {
 }
