@@ -9,7 +9,7 @@ use mir.ValLaws.{to_z-of_z}
 use Rattle.machine.specs.Signals.{week_of}
 use Rattle.places.specs.Places.{answer, folded, gap_reply}
 use Rattle.places.proofs.Answers.{gap_answers}
-use Rattle.places.proofs.Gaps.{gap_is, other_ways}
+use Rattle.places.proofs.Gaps.{gap_is, back_again}
 use Rattle.places.proofs.gap.Goals as goal
 
 answered : (c : goal.After-chips_between) → gap_reply c.args.signal c.args.a c.args.b ≡ answer (to_z w64 (of_z w64 c.chips_between.result))
@@ -23,5 +23,5 @@ answered c =
 pub returns-clause-only : goal.returns-clause-only
 returns-clause-only c = gap_is c.args.signal c.args.a c.args.b _ (answered c)
 
-pub returns-clause-other_way : goal.returns-clause-other_way
-returns-clause-other_way c = other_ways c.args.signal c.args.a c.args.b _ (answered c)
+pub returns-clause-back_again : goal.returns-clause-back_again
+returns-clause-back_again c = back_again c.args.signal c.args.a c.args.b _ (answered c)
