@@ -4,7 +4,7 @@
 --     no_gap       from a place to itself it is 0
 --     gap_turned   the other way it is the opposite, unless it is -W/2
 --     half_week    -W/2 is -W/2 the other way too
---     other_ways   both of these
+--     back_again   all three
 -- Assumes nothing.
 use Prim.Native.Nat.{ℕ, ◌+◌, ◌*◌, ◌/◌, ◌%◌, ◌≤◌, ◌<◌}
 use mathlib.Core.Bool.{true, false}
@@ -17,7 +17,7 @@ use lib.Signed.{le_z, lt_z, ◌≤ℤ◌}
 use Rattle.machine.specs.Signals.{week_of}
 use Rattle.machine.specs.Machine.{is_signal}
 use Rattle.machine.proofs.Tests.{chosen}
-use Rattle.places.specs.Places.{answer, folded, gap_reply, Congruent, WithinHalf, IsGap, OtherWay}
+use Rattle.places.specs.Places.{answer, folded, gap_reply, Congruent, WithinHalf, IsGap, BackAgain}
 use Rattle.places.proofs.Answers.{gap_answers, gap_accepted}
 use Rattle.places.proofs.Epochs.{week_even, week_some}
 use Rattle.places.proofs.Differences.{up, down, Is, difference_is, neg_up, neg_down, neg_is, plus, minus, weeks_on, le_passed, le_failed, lt_passed, lt_failed, is_le, le_is, are_same}
@@ -198,9 +198,11 @@ half_week signal a b answered =
           (omega (arith, even, weeks, half_is, g-is)),
     )
 
-pub other_ways : (signal a b : ℕ) (g : ℤ) → gap_reply signal a b ≡ answer g → OtherWay signal a b g
-other_ways signal a b g answered =
+pub back_again : (signal a b : ℕ) (g : ℤ) → gap_reply signal a b ≡ answer g → BackAgain signal a b g
+back_again signal a b g answered =
+    let known = gap_accepted signal a b g answered in
     record {
+      none = λ e. let same : answer g ≡ answer (pos 0) = sym answered ∙ ap (gap_reply signal a) (sym e) ∙ no_gap signal a known.0 known.1 in cc;
       half_week = λ e. half_week signal a b (answered ∙ ap answer e) ∙ ap answer (sym e);
       turned = gap_turned signal a b g answered;
     }

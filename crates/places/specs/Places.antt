@@ -105,8 +105,9 @@ pub record IsGap (w a b : ℕ) (g : ℤ) : Type 0 where
   pub congruent : Congruent w g (pos b -ℤ pos a)
   pub only : (z : ℤ) → WithinHalf w z → Congruent w z (pos b -ℤ pos a) → z ≡ g
 
--- the other way than the gap g from a to b it is -g; but -W/2 stays -W/2, since W/2 is out of the range
-pub record OtherWay (signal a b : ℕ) (g : ℤ) : Type 0 where
+-- From a place to itself the gap is 0. The other way than g, from b to a, it is -g; but -W/2 stays -W/2, since W/2 is out of the range.
+pub record BackAgain (signal a b : ℕ) (g : ℤ) : Type 0 where
+  pub none : a ≡ b → g ≡ pos 0
   pub half_week : g ≡ neg_ℤ (pos (week_of signal / 2)) → gap_reply signal b a ≡ answer g
   pub turned : (g ≡ neg_ℤ (pos (week_of signal / 2)) → ⊥) → gap_reply signal b a ≡ answer (neg_ℤ g)
 

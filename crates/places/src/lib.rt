@@ -7,7 +7,7 @@ ghost use Rattle.std.specs.Int.{w64};
 ghost use Rattle.signals.specs.Signals.{number_of};
 ghost use Rattle.machine.specs.Signals.{week_of};
 ghost use Rattle.places.specs.Places.{answer, epoch_chips, WeekByEpochs, of_read, reading_reply, EpochOfP, of_placed, place_of_reply, folded_by, folded, of_parted, gap_reply};
-ghost use Rattle.places.specs.Places.{IsGap, OtherWay, EndValues};
+ghost use Rattle.places.specs.Places.{IsGap, BackAgain, EndValues};
 
 use refusals::Refusal;
 use signals::Signal;
@@ -125,7 +125,7 @@ fn chips_between(week: u64, a: u64, b: u64) -> i64
 pub fn gap(signal: u64, a: u64, b: u64) -> Result<i64, Refusal>
     ensures reply { of_parted result ≡ gap_reply signal a b }
     ensures only { IfOk result (λ g. IsGap (week_of signal) a b g) }
-    ensures other_way { IfOk result (λ g. OtherWay signal a b g) }
+    ensures back_again { IfOk result (λ g. BackAgain signal a b g) }
 {
     let week = Signal::try_from(signal)?.week();
     if week <= a || week <= b {
