@@ -11,8 +11,8 @@
 #     .. ≡ ..            a promise, which stands so in a file that the same row cites
 #
 # A FILE is looked for under crates/ and then from the root of the repository. Each row of a table has to cite something, and each edit of the repository has
-# to be cited. A promise is what a function ensures: where a table has a column "promise", no proof is cited there. Where a program was proved here, what it
-# assumes is compared with what rt said of it.
+# to be cited. A promise is what a function ensures, and what has to be believed is a definition: no name in a proof is cited. Where a program was proved here,
+# what it assumes is compared with what rt said of it.
 set -eu
 
 cd "$(dirname "$0")/../.."
@@ -78,6 +78,7 @@ check_row() {
                 if path=$(found "$file"); then
                     files=$((files + 1)) citations=$((citations + 1))
                     cites+=("$path")
+                    case $path in crates/*/proofs/*) wrong "a proof is cited: $file" ;; esac
                     check_names "$path" "${span#*: }"
                 else
                     wrong "no file $file"
