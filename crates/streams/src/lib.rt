@@ -2,7 +2,7 @@
 #![tactic(auto)]
 
 ghost use Rattle.std.specs.Prelude.{ℕ, List};
-ghost use Rattle.streams.specs.Stream.{course, InOrder, AnyChunks};
+ghost use Rattle.streams.specs.Stream.{course, InOrder, AnyChunks, ByTheStandards};
 ghost use Rattle.streams.specs.Laws.{laws};
 ghost use Rattle.lines.specs.declared.TheConstants.{ROOM as longest};
 
@@ -65,5 +65,12 @@ pub fn in_order()
 #[tactic(auto, using(crate::proofs::EveryInput::any_chunks))]
 pub fn any_chunks()
     ensures { AnyChunks }
+{
+}
+
+// By the standards: the chips in the replies are those of IS-GPS-200 and IS-GPS-705.
+#[tactic(auto, using(crate::proofs::EveryInput::answers_by_the_standards))]
+pub fn by_the_standards()
+    ensures { ByTheStandards }
 {
 }
