@@ -4,6 +4,7 @@
 
 ghost use Rattle.std.specs.Prelude.{◌⊎◌, IfSome, OnOk, IfErr};
 ghost use Rattle.std.specs.Io.KnownBytes.{Appends};
+ghost use Rattle.gps_chips.specs.Chips.{by_the_machine, by_the_standards};
 ghost use Rattle.line_programs.specs.Talks.{HasFailed, Begins, AnswersRead, BeginsRead, IsEndless, OnInput, OnOutput};
 ghost use Rattle.streams.specs.Stream.{answers, answers_so_far};
 
@@ -14,12 +15,13 @@ use streams::{Replies, Stream};
 // Reads and answers all of the input. The console has one like it: each ensures a definition of its own, and what is alike is in `line_programs`.
 #[tactic(auto, using(streams::proofs::EveryInput::every_input))]
 fn answer_all<R: Source, W: Sink>(input: &mut R, output: &mut W) -> Result<(), Failed>
-    ensures ok { OnOk result (IfSome (R.remaining input.old) (λ bytes. Appends (W.contents output.old) (W.contents output.new) (answers bytes))) }
-    ensures begun { IfSome (R.remaining input.old) (λ bytes. Begins (W.contents output.old) (W.contents output.new) (answers bytes)) }
+    ensures ok { OnOk result (IfSome (R.remaining input.old) (λ bytes. Appends (W.contents output.old) (W.contents output.new) (answers by_the_machine bytes))) }
+    ensures standards { OnOk result (IfSome (R.remaining input.old) (λ bytes. Appends (W.contents output.old) (W.contents output.new) (answers by_the_standards bytes))) }
+    ensures begun { IfSome (R.remaining input.old) (λ bytes. Begins (W.contents output.old) (W.contents output.new) (answers by_the_machine bytes)) }
     ensures read { IfErr result (λ e. OnInput e (AnswersRead (R.remaining input.old) (R.remaining input.new) (W.contents output.old) (W.contents output.new)
-        answers_so_far)) }
+        (answers_so_far by_the_machine))) }
     ensures written { IfErr result (λ e. OnOutput e (BeginsRead (R.remaining input.old) (R.remaining input.new) (W.contents output.old) (W.contents output.new)
-        answers_so_far answers)) }
+        (answers_so_far by_the_machine) (answers by_the_machine))) }
     ensures input { IfErr result (λ e. OnInput e (HasFailed (R.failed input.new) (R.interrupted input.new) ⊎ IsEndless (R.remaining input.old))) }
     ensures output { IfErr result (λ e. OnOutput e (HasFailed (W.failed output.new) (W.interrupted output.new))) }
 {

@@ -139,5 +139,4 @@ pub fn command_in(line: &[u8], last: Option<Channel>) -> Option<Command>
 #[tactic(auto, using(crate::proofs::LongLines::late))]
 pub fn long_lines()
     ensures { LongLines }
-{
-}
+{}

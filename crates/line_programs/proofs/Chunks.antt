@@ -52,10 +52,11 @@ module _ {S : Type 0} (c : Course S) (keeps : KeepsAll c) where
   been_last s here input left after old now new count (read, took, long, (grew, held)) takes end begun = (
     read ++ [],
     Consumes-trans input left after read [] took takes,
-    inr
-        (end,
-        begins_on old now new (says c s read) (saying c here []) [] _ grew begun
-        (saying_on c keeps s here read [] held ∙ ap (λ (l : List ℕ). says c s read ++ l) (sym (append-nil (saying c here []))))),
+    inr (
+      end,
+      begins_on old now new (says c s read) (saying c here []) [] _ grew begun
+          (saying_on c keeps s here read [] held ∙ ap (λ (l : List ℕ). says c s read ++ l) (sym (append-nil (saying c here [])))),
+    ),
   )
 
   -- of an input that is known

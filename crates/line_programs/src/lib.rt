@@ -37,8 +37,7 @@ pub enum Failed {
 #[tactic(auto, using(crate::proofs::Lines::lines_and_back))]
 pub fn lines_and_back()
     ensures { LinesAndBack }
-{
-}
+{}
 
 // ---- a dialog
 

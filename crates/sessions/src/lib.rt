@@ -109,12 +109,10 @@ impl<'a, const N: usize> Answers<KEPT, N> for Console<'a> {
 #[tactic(auto, using(crate::proofs::EverySession::every_session))]
 pub fn every_session()
     ensures { EverySession }
-{
-}
+{}
 
 // Every script: lines that open a channel and then ask for calls on `.` are answered with the texts of that list of calls, and leave `.` at the channel that it
 // hands back. What holds of every list of calls is in `lists`.
 pub fn every_script()
     ensures { EveryScript }
-{
-}
+{}

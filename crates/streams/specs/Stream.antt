@@ -3,7 +3,7 @@
 use Rattle.std.specs.Prelude.{ℕ, ◌≡◌, cond, List, [], ◌∷◌, ◌++◌, eqb, take}
 use Rattle.texts.specs.Texts.{refused_line}
 use Rattle.texts.specs.Saying.{rest_of, replies_of, whole}
-use Rattle.gps_chips.specs.Chips.{by_the_machine}
+use Rattle.gps_chips.specs.Chips.{by_the_machine, by_the_standards}
 use Rattle.lines.specs.Lines.{line_reply}
 use Rattle.line_programs.specs.Lines.{ended, unended, joined, AllPlain}
 use Rattle.line_programs.specs.Dialogs.{Course, fed_with}
@@ -11,10 +11,10 @@ use Rattle.texts.proofs.Saying.{Plain}
 
 -- ---- the whole output
 
--- the replies to lines, in order: "newline after each"
-abbrev pub replies_to : List (List ℕ) → List ℕ
-replies_to [] = []
-replies_to (line ∷ lines) = line_reply by_the_machine line ++ replies_to lines
+-- the replies to lines, in order, given who gives the chips: "newline after each"
+abbrev pub replies_to : (ℕ → ℕ → ℕ → ℕ → List ℕ) → List (List ℕ) → List ℕ
+replies_to chips_from [] = []
+replies_to chips_from (line ∷ lines) = line_reply chips_from line ++ replies_to chips_from lines
 
 -- what the end of the input has it say: "9: a line of another form, a last one lacking its newline included"
 abbrev pub last_reply : List ℕ → List ℕ
@@ -22,12 +22,12 @@ last_reply [] = []
 last_reply (b ∷ bs) = refused_line 9
 
 -- the whole output for a whole input: the replies to its lines, in order, and `refused 9` for what follows the last newline, if that has a byte
-abbrev pub answers : List ℕ → List ℕ
-answers input = replies_to (ended input) ++ last_reply (unended input)
+abbrev pub answers : (ℕ → ℕ → ℕ → ℕ → List ℕ) → List ℕ → List ℕ
+answers chips_from input = replies_to chips_from (ended input) ++ last_reply (unended input)
 
 -- what is said to some bytes, of which more may follow
-abbrev pub answers_so_far : List ℕ → List ℕ
-answers_so_far bytes = replies_to (ended bytes)
+abbrev pub answers_so_far : (ℕ → ℕ → ℕ → ℕ → List ℕ) → List ℕ → List ℕ
+answers_so_far chips_from bytes = replies_to chips_from (ended bytes)
 
 -- ---- the same byte by byte
 
@@ -65,8 +65,14 @@ course = record { kept = kept; next = next; said = said; last = last_reply }
 -- The output for lines, each with its newline, and what follows the last one, is the replies to the lines, in order, and `refused 9` for what follows, if that has
 -- a byte.
 abbrev pub InOrder : Type 0
-InOrder = (lines : List (List ℕ)) (last : List ℕ) → AllPlain lines → Plain last → answers (joined lines last) ≡ replies_to lines ++ last_reply last
+InOrder =
+    (chips_from : ℕ → ℕ → ℕ → ℕ → List ℕ) (lines : List (List ℕ)) (last : List ℕ) → AllPlain lines → Plain last
+    → answers chips_from (joined lines last) ≡ replies_to chips_from lines ++ last_reply last
 
 -- It is the same however the input is cut into chunks.
 abbrev pub AnyChunks : Type 0
-AnyChunks = (chunks : List (List ℕ)) → fed_with course [] chunks ≡ answers (whole chunks)
+AnyChunks = (chunks : List (List ℕ)) → fed_with course [] chunks ≡ answers by_the_machine (whole chunks)
+
+-- The machine's chips in it are the standards'.
+abbrev pub ByTheStandards : Type 0
+ByTheStandards = (input : List ℕ) → answers by_the_machine input ≡ answers by_the_standards input

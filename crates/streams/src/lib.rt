@@ -2,7 +2,7 @@
 #![tactic(auto)]
 
 ghost use Rattle.std.specs.Prelude.{ℕ, List};
-ghost use Rattle.streams.specs.Stream.{course, InOrder, AnyChunks};
+ghost use Rattle.streams.specs.Stream.{course, InOrder, AnyChunks, ByTheStandards};
 ghost use Rattle.streams.specs.Laws.{laws};
 ghost use Rattle.lines.specs.declared.TheConstants.{ROOM as longest};
 
@@ -58,12 +58,16 @@ impl<const N: usize> Answers<KEPT, N> for Replies {
 #[tactic(auto, using(crate::proofs::EveryInput::in_order))]
 pub fn in_order()
     ensures { InOrder }
-{
-}
+{}
 
 // Every cut: fed in any chunks, a stream says what it says to the whole input.
 #[tactic(auto, using(crate::proofs::EveryInput::any_chunks))]
 pub fn any_chunks()
     ensures { AnyChunks }
-{
-}
+{}
+
+// By the standards: the chips in the replies are those of IS-GPS-200 and IS-GPS-705.
+#[tactic(auto, using(crate::proofs::EveryInput::answers_by_the_standards))]
+pub fn by_the_standards()
+    ensures { ByTheStandards }
+{}
