@@ -5,21 +5,15 @@
 -- Assumes nothing.
 use mathlib.Core.Bool.{true, false}
 use mathlib.Core.Path.{◌≡◌, sym, ap, ap₂, subst, ◌∙◌}
-use mathlib.Core.List.{List, [], ◌∷◌}
 use Prim.Native.Nat.{ℕ, ◌≤◌, ◌<◌}
-use native.Mathlib.Omega.{arith}
-use lib.Dec.{ltb}
-use lib.ListN.{length, get_or}
 use borrow.Author.Tests.{lt-ltb, le-ltb}
 use Rattle.machine.specs.Signals.{week_of}
 use Rattle.machine.specs.Machine.{opened, advance, in_range, is_signal, is_prn}
 use Rattle.machine.specs.declared.Channel.{Channel}
-use Rattle.machine.proofs.Tests.{chosen}
 use Rattle.machine.proofs.RangeLaw.{reached_in}
 use Rattle.week.proofs.LawOfTheWeek.{law_of_the_week}
 use Rattle.replies.specs.Reply.{Reply, refused_with}
 use Rattle.seeks.specs.Leaps.{leaps_to}
-use Rattle.seeks.proofs.FewLeaps.{at_most_44}
 use Rattle.call_seek.specs.Seek.{sought_with, seek_reply, Cases}
 
 module _ (ch : Channel) (place : ℕ) where
@@ -60,6 +54,6 @@ cases ch place reply is =
       out_of_range = λ e. is ∙ seek_out_of_range ch place e;
       past_the_week = λ e h. is ∙ seek_past ch place e h;
       from_everywhere = λ signal prn n signal_ok prn_ok there within.
-      is ∙ ap (λ (x : Channel). seek_reply x place) there ∙ seeks_accepted signal prn signal_ok prn_ok n place within;
+          is ∙ ap (λ (x : Channel). seek_reply x place) there ∙ seeks_accepted signal prn signal_ok prn_ok n place within;
       forgets = λ old e f s p within. is ∙ seek_forgets ch old place e f s p within;
     }

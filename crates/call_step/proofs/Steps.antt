@@ -4,7 +4,7 @@
 -- Assumes nothing.
 use mathlib.Core.Bool.{true}
 use mathlib.Core.Path.{◌≡◌, sym, ap, ◌∙◌}
-use Prim.Native.Nat.{ℕ, suc, ◌+◌, ◌%◌}
+use Prim.Native.Nat.{ℕ, suc, ◌%◌}
 use Rattle.std.proofs.Common.{add-one}
 use Rattle.machine.specs.Signals.{week_of}
 use Rattle.machine.specs.Machine.{opened, step, advance, chip, in_range, is_signal, is_prn}
