@@ -2,14 +2,13 @@
 -- Assumes nothing.
 use mathlib.Core.Bool.{true}
 use mathlib.Core.Path.{◌≡◌, refl, sym, ap, ap₂, ◌∙◌}
-use mathlib.Core.List.{List, [], ◌∷◌}
-use Prim.Native.Nat.{ℕ, zero, suc, ◌+◌, ◌*◌, ◌/◌, ◌%◌, ◌^◌, ◌<◌}
+use mathlib.Core.List.{[], ◌∷◌}
+use Prim.Native.Nat.{ℕ, zero, suc, ◌+◌, ◌/◌, ◌%◌, ◌^◌, ◌<◌}
 use native.Mathlib.Nat.{pow-suc}
 use native.Mathlib.Omega.{arith}
 use lib.Arith.{lt-one}
 use lib.Count.{ones, ones_in, ones_step}
 use lib.Dec.{lit<}
-use lib.IntN.{pos, neg_ℤ}
 use Rattle.registers.specs.Times.{times}
 use Rattle.registers.specs.Register.{stage, sum_of, shift}
 use Rattle.starts.specs.Starts.{stages_ca, stages_of, start_i5, advances_i5, advanced_xb}
@@ -25,7 +24,6 @@ use Rattle.seeks.specs.Leaps.{phase_ones, leaps_to}
 use Rattle.replies.specs.Reply.{Reply}
 use Rattle.call_seek.specs.Seek.{seek_reply}
 use Rattle.call_seek.proofs.Seeks.{seeks_accepted}
-use Rattle.places.specs.Places.{answer, gap_reply}
 use Rattle.places.proofs.EndValues.{half_a_week_on}
 use Rattle.known_places.specs.KnownPlaces.{first_chips, p, leaps_of, KnownPlaces}
 

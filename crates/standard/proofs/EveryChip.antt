@@ -11,7 +11,7 @@ use Prim.Native.Nat.{ℕ, zero, suc, ◌-◌, ◌%◌, ◌<◌}
 use native.Mathlib.Nat.{mod-lt, mod-mod}
 use native.Mathlib.Omega.{arith}
 use Rattle.machine.specs.Signals.{week_of, signal_of, places_from}
-use Rattle.machine.specs.Machine.{advance, opened, chip, chips, is_signal, is_prn}
+use Rattle.machine.specs.Machine.{advance, opened, chip, is_signal, is_prn}
 use Rattle.machine.proofs.Ranges.{signal_in, prn_in}
 use Rattle.machine.proofs.Numbered.{chip_is}
 use Rattle.week.specs.Week.{courses_of, channel_at}

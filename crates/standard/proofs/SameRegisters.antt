@@ -3,9 +3,9 @@
 --     g1_chip .. xb_chip   chip n of a register's sequence is what the machine's register gives after n shifts from its start
 --     l2_chip              the same of an L2 register, from any state
 -- Assumes nothing.
-use mathlib.Core.Path.{◌≡◌, refl, sym, ap, ap₂, ◌∙◌}
-use mathlib.Core.List.{List, [], ◌∷◌}
-use Prim.Native.Nat.{ℕ, zero, suc, ◌+◌, ◌*◌, ◌/◌, ◌%◌, ◌^◌}
+use mathlib.Core.Path.{◌≡◌, refl, ap, ◌∙◌}
+use mathlib.Core.List.{List}
+use Prim.Native.Nat.{ℕ, zero, suc, ◌*◌, ◌/◌, ◌%◌}
 use native.Mathlib.Omega.{arith}
 use lib.Bits.{bit_xor}
 use Rattle.registers.specs.Times.{times}
@@ -16,7 +16,7 @@ use Rattle.starts.specs.Starts.{advances_i5 as machine_i5, advances_q5 as machin
 use Rattle.standard.specs.Registers.{held_in, term, input, shifted, modular_shifted, sequence, modular_sequence, polynomial_g1, polynomial_g2, vector_g, polynomial_x1a, polynomial_x1b, polynomial_x2a, polynomial_x2b}
 use Rattle.standard.specs.Registers.{vector_x1a, vector_x1b, vector_x2a, vector_x2b, polynomial_xa, polynomial_xb, vector_l5, polynomial_l2}
 use Rattle.standard.specs.Tables.{of_prn, states_cm, states_cl, advances_i5, advances_q5}
-use Rattle.standard.specs.Laws.{Same, SameRegisters}
+use Rattle.standard.specs.Laws.{SameRegisters}
 
 -- ---- shifts
 

@@ -1,6 +1,5 @@
-use Rattle.std.proofs.Common.{rules, ◌≡◌, ◌++◌, Some, ℕ, List, Bor}
-use Rattle.numbers.specs.Numbers.{of_read}
-use Rattle.words.specs.Words.{read_channel, channel_word}
+use Rattle.std.proofs.Common.{rules, Some}
+use Rattle.words.specs.Words.{read_channel}
 use Rattle.words.proofs.RoundTrip.{read_back}
 use Rattle.words.proofs.read_channel.Goals as goal
 
