@@ -23,5 +23,4 @@ pub fn open(signal: u64, prn: u64) -> Result<Channel, Refusal>
 #[tactic(auto, using(crate::proofs::Opens::end_values))]
 pub fn end_values()
     ensures { EndValues }
-{
-}
+{}

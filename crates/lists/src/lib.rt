@@ -7,5 +7,4 @@ ghost use Rattle.lists.specs.Lists.{EveryList};
 // the stepped machine has, and the chips of IS-GPS-200 and IS-GPS-705; its refusals, its buffers and the leaps of its seeks are those of the rules.
 pub fn every_list()
     ensures { EveryList }
-{
-}
+{}

@@ -36,8 +36,7 @@ fn epoch_chips(signal: Signal) -> u64
 #[tactic(auto, using(crate::proofs::Epochs::week_by_epochs))]
 pub fn week_by_epochs()
     ensures { WeekByEpochs }
-{
-}
+{}
 
 // ---- reading
 
@@ -61,8 +60,7 @@ pub fn reading(signal: u64, place: u64) -> Result<Reading, Refusal>
 #[tactic(auto, using(crate::proofs::EpochOfP::epoch_of_p))]
 pub fn epoch_of_p()
     ensures { EpochOfP }
-{
-}
+{}
 
 // ---- place of
 
@@ -147,5 +145,4 @@ pub fn size(chips: i64) -> u64
 #[tactic(auto, using(crate::proofs::EndValues::end_values))]
 pub fn end_values()
     ensures { EndValues }
-{
-}
+{}
