@@ -58,12 +58,13 @@ rows() {
 
 expect_3_Ia() {
     local table='Table 3-Ia'
-    heads "$table" 'IS-GPS-200 Table 3-Ia. Code Phase Assignments: first 10 chips of C/A, first 12 chips of P (octal)' '' \
-        'PRN  C/A   P'
+    heads "$table" 'IS-GPS-200 Table 3-Ia. Code Phase Assignments: stages of G2, code delay of C/A (chips), first 10 chips of C/A, first 12 chips of P (octal)' '' \
+        'PRN  G2     Delay  C/A   P'
     # An empty cell of P is an arrow in print, with 4343 at both ends.
     rows "$table" table_3-Ia.tsv '{
+        first = cell("tap1"); second = cell("tap2"); delay = cell("ca_delay")
         ca = cell("ca_first10_octal"); p = cell("p_first12_octal") == "" ? "4343" : cell("p_first12_octal")
-        line("PRN " cell("prn"), ca p, sprintf("%3d  %s  %s", cell("prn"), ca, p))
+        line("PRN " cell("prn"), first second delay ca p, sprintf("%3d  %2d %2d  %5d  %s  %s", cell("prn"), first, second, delay, ca, p))
     }'
     heads "$table" ''
 }

@@ -1,2 +1,3 @@
 -- What the contracts of `standards` cite.
 pub mod Cells
+pub mod CodePhases

@@ -59,14 +59,12 @@ pub fn xb(signal: u64, prn: u64) -> Shown<Bits<13>>
 
 // ---- Table 6-IV, by open, seek and window
 
-// Not by `states::reach`, which has no clause.
 fn reached(prn: u64, place: u64) -> Result<[u8; 1_024], Refusal>
     ensures { Told 2 prn place 1024 (λ written chips. written ≡ chips) result }
 {
-    let opened = engine::open(P, prn)?;
-    let sought = engine::seek(opened, place)?;
+    let there = states::reach(P, prn, place)?.channel;
     let mut chips = [0u8; 1_024];
-    engine::window(sought.channel, 1_024, &mut chips, 0)?;
+    engine::window(there, 1_024, &mut chips, 0)?;
     Ok(chips)
 }
 

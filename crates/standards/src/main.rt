@@ -1,11 +1,13 @@
-// Writes the tables that the GPS standards print, and known places, from the engine's calls. Three tables have a row for each PRN from 1 to 37, L2's end states
-// stand at `machine`'s places of a period's last chip, and P's generators are those of PRN 1, as `tables` says; all else of which PRNs and at which places a
-// table has rows is written in `layout`. The file `stdout` has what the standards print, and the gate compares the two.
+// Writes the tables that the GPS standards print, and known places, from the engine's calls, and the stages of G2 from the engine's own table. Three tables have
+// a row for each PRN from 1 to 37, L2's end states stand at `machine`'s places of a period's last chip, and P's generators are those of PRN 1, as `tables` says;
+// all else of which PRNs and at which places a table has rows is written in `layout`. The file `stdout` has what the standards print, and the gate compares the
+// two.
 #![tactic(auto)]
 
 use std::io;
 
 mod chips;
+mod code_phases;
 mod known;
 mod tables;
 

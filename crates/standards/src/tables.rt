@@ -1,5 +1,12 @@
 // The tables, in the order of the standards' pages. A line of a table stands as its format, each value by the engine's calls.
+ghost use Rattle.std.specs.Prelude.{◌≡◌};
+ghost use Rattle.call_open.specs.Open.{open_reply};
+ghost use Rattle.layout.specs.declared.Field.TheVariants.{Register};
+ghost use Rattle.pages.specs.Cells.{of_shown};
+ghost use Rattle.states.specs.States.{opened_cell, reach_reply, reached_cell};
+
 use crate::chips::{first, first_256, last_1024, xb};
+use crate::code_phases::{delay, stages};
 use layout::{CYCLE_ENDS, Coder, Field, RESETS, SELECTED, Selected};
 use machine::{LAST_CL, LAST_CM};
 use pages::text::{Digits, Shown};
@@ -28,24 +35,30 @@ impl fmt::Display for Tables {
 fn write_code_phases<W: fmt::Write>(f: &mut fmt::Formatter<W>) -> fmt::Result {
     writeln!(
         f,
-        "IS-GPS-200 Table 3-Ia. Code Phase Assignments: first 10 chips of C/A, first 12 chips of P (octal)\n\n\
-         PRN  C/A   P"
+        "IS-GPS-200 Table 3-Ia. Code Phase Assignments: stages of G2, code delay of C/A (chips), first 10 chips of C/A, first 12 chips of P (octal)\n\n\
+         PRN  G2     Delay  C/A   P"
     )?;
     for prn in 1..=37u64 {
+        let g2 = stages(prn);
+        let late = delay(prn);
         let ca = first::<10>(CA, prn, Digits::Octal);
         let p = first::<12>(P, prn, Digits::Octal);
-        writeln!(f, "{prn:>3}  {ca}  {p}")?;
+        writeln!(f, "{prn:>3}  {g2}  {late}  {ca}  {p}")?;
     }
     writeln!(f)
 }
 
 // A register of L2 as a channel is opened. Here and below a signal is its number, as `states` takes it. Apart from the next, which has a place.
-fn initial(signal: u64, prn: u64, coder: Coder) -> Shown<Value> {
+fn initial(signal: u64, prn: u64, coder: Coder) -> Shown<Value>
+    ensures { of_shown result.0 ≡ opened_cell (open_reply signal prn) (Register coder) }
+{
     Shown(states::at_open(signal, prn, Field::Register(coder)))
 }
 
 // The same at a place.
-fn register(signal: u64, prn: u64, place: u64, coder: Coder) -> Shown<Value> {
+fn register(signal: u64, prn: u64, place: u64, coder: Coder) -> Shown<Value>
+    ensures { of_shown result.0 ≡ reached_cell (reach_reply signal prn place) (Register coder) }
+{
     Shown(states::at_place(signal, prn, place, Field::Register(coder)))
 }
 
@@ -83,8 +96,10 @@ fn write_xb_states<W: fmt::Write>(f: &mut fmt::Formatter<W>) -> fmt::Result {
 
 // ---- P's generators, of PRN 1. A function for each table, as above.
 
-// A field of P at a place. No clause: what `states` sees of a channel has none, and the gate compares all that is written.
-pub(crate) fn p_at(place: u64, field: Field) -> Shown<Value> {
+// A field of P at a place.
+pub(crate) fn p_at(place: u64, field: Field) -> Shown<Value>
+    ensures { of_shown result.0 ≡ reached_cell (reach_reply 2 1 place) field }
+{
     Shown(states::at_place(P, 1, place, field))
 }
 
