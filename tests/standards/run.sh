@@ -274,8 +274,8 @@ for crate in starts/specs/Starts.antt standard/specs/Tables.antt; do
     same_list "$crate" advances_i5 table_705_3-I.tsv i5_advance
     same_list "$crate" advances_q5 table_705_3-I.tsv q5_advance
 done
-same_list starts/proofs/PrintedVectors.antt vectors_i5 table_705_3-I.tsv i5_vector
-same_list starts/proofs/PrintedVectors.antt vectors_q5 table_705_3-I.tsv q5_vector
+same_list starts/specs/PrintedVectors.antt vectors_i5 table_705_3-I.tsv i5_vector
+same_list starts/specs/PrintedVectors.antt vectors_q5 table_705_3-I.tsv q5_vector
 same_vector standard/specs/Registers.antt vector_x1a X1A
 same_vector standard/specs/Registers.antt vector_x1b X1B
 same_vector standard/specs/Registers.antt vector_x2a X2A
