@@ -2,7 +2,7 @@
 -- Assumes nothing.
 use Rattle.std.specs.Prelude.{ℕ, ◌≡◌, List, take, Option, None}
 use Rattle.machine.specs.declared.Channel.{Channel}
-use Rattle.texts.proofs.Saying.{Plain}
+use Rattle.texts.specs.Saying.{Plain}
 use Rattle.commands.specs.Commands.{command_of}
 
 -- No command is longer than 640 bytes: a line that has no newline among so many is none.

@@ -1,7 +1,7 @@
 -- An input, cut at its newlines. Bytes are those of ASCII: 10 is a newline.
 -- Assumes nothing.
 use Rattle.std.specs.Prelude.{ℕ, ◌≡◌, cond, List, [], ◌∷◌, ◌++◌, eqb}
-use Rattle.texts.proofs.Saying.{Plain}
+use Rattle.texts.specs.Saying.{Plain}
 
 -- the lines that end in a newline, in order, each without it, where a line has begun with some bytes
 abbrev pub ended_from : List ℕ → List ℕ → List (List ℕ)

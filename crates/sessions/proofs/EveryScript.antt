@@ -13,6 +13,7 @@ use Rattle.machine.specs.declared.Channel.{Channel}
 use Rattle.call_open.specs.Open.{OpenReply, open_reply, channel}
 use Rattle.call_window.specs.Window.{window_reply}
 use Rattle.lists.specs.Lists.{Call, reply_to, replies, handed_back}
+use Rattle.lists.proofs.EveryList.{every_list}
 use Rattle.commands.specs.declared.Command.{Command}
 use Rattle.commands.specs.declared.Command.TheVariants as commands
 use Rattle.answer_lines.specs.Lines.{error_line, most_length}
@@ -66,4 +67,5 @@ every_script help last signal prn ch opened first asks lines calls all =
           ap₂ (λ (t : List ℕ) (d : Option Channel). t ++ answers_to help d lines) text dot
           ∙ ap (λ (t : List ℕ). open_line (channel ch) ++ t) (said_along help ch lines calls all);
       dot = ap (λ (d : Option Channel). last_after d lines) dot ∙ left_along help ch lines calls all;
+      list = every_list signal prn ch opened calls;
     }

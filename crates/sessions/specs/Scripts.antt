@@ -4,7 +4,7 @@ use Rattle.std.specs.Prelude.{ℕ, ◌≡◌, ◌≤◌, List, [], ◌∷◌, �
 use Rattle.machine.specs.declared.Channel.{Channel}
 use Rattle.replies.specs.Reply.{Reply}
 use Rattle.call_open.specs.Open.{open_reply, channel}
-use Rattle.lists.specs.Lists.{Call, replies, handed_back}
+use Rattle.lists.specs.Lists.{Call, replies, handed_back, ListOfCalls}
 use Rattle.commands.specs.declared.Command.{Command}
 use Rattle.commands.specs.declared.Command.TheVariants as commands
 use Rattle.answer_lines.specs.Lines.{most_length}
@@ -52,14 +52,16 @@ last_after last [] = last
 last_after last (line ∷ lines) = last_after (last_of last (command_in last line)) lines
 
 -- Lines that ask for a list of calls from the channel ch, which a first line opened, wherever in a session they stand.
-pub record ScriptOfLines (help : List ℕ) (last : Option Channel) (first : List ℕ) (lines : List (List ℕ)) (ch : Channel) (calls : List Call) : Type 0 where
+pub record ScriptOfLines (help : List ℕ) (last : Option Channel) (signal prn : ℕ) (first : List ℕ) (lines : List (List ℕ)) (ch : Channel) (calls : List Call) : Type 0 where
   -- the answers are the texts of the replies to that list of calls, in order, behind that of the open
   pub said : answers_to help last (first ∷ lines) ≡ open_line (channel ch) ++ lines_of calls (replies ch calls)
   -- and `.` stands for the channel that the last of them handed back
   pub dot : last_after last (first ∷ lines) ≡ Some (handed_back ch calls)
+  -- of which holds what holds of every list of calls: place, fields, chips, refusals, leaps
+  pub list : ListOfCalls signal prn (handed_back ch calls) (replies ch calls) calls
 
 abbrev pub EveryScript : Type 0
 EveryScript =
     (help : List ℕ) (last : Option Channel) (signal prn : ℕ) (ch : Channel) → open_reply signal prn ≡ channel ch
     → (first : List ℕ) → command_in last first ≡ Some (commands.Open signal prn)
-    → (lines : List (List ℕ)) (calls : List Call) → AllAsk lines calls → ScriptOfLines help last first lines ch calls
+    → (lines : List (List ℕ)) (calls : List Call) → AllAsk lines calls → ScriptOfLines help last signal prn first lines ch calls

@@ -112,7 +112,7 @@ pub fn every_session()
 {}
 
 // Every script: lines that open a channel and then ask for calls on `.` are answered with the texts of that list of calls, and leave `.` at the channel that it
-// hands back. What holds of every list of calls is in `lists`.
+// hands back; and of these holds what holds of every list of calls.
 pub fn every_script()
     ensures { EveryScript }
 {}

@@ -27,7 +27,7 @@ use Rattle.machine.proofs.Ranges.{prn_in}
 use Rattle.week.specs.Standing.{standing_at, generator_at}
 use Rattle.week.specs.Week.{course_g}
 use Rattle.week.proofs.LawOfTheWeek.{at_place}
-use Rattle.standard.specs.Standard.{code_delays}
+use Rattle.standard.specs.Tables.{code_delays}
 use Rattle.standard.proofs.Phases.{phase_runs}
 use Rattle.refusals.specs.Refusal.{number_of}
 use Rattle.refusals.specs.declared.Refusal.{Refusal}

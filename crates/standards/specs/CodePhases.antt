@@ -8,7 +8,7 @@ use Rattle.refusals.specs.Refusal.{number_of}
 use Rattle.refusals.specs.declared.Refusal.{Refusal}
 use Rattle.pages.specs.declared.values.Value.TheVariants as values
 use Rattle.pages.specs.Cells.{Cell, value, refused}
-use Rattle.standard.specs.Standard.{code_delays}
+use Rattle.standard.specs.Tables.{code_delays}
 
 -- ---- the cells
 

@@ -7,7 +7,7 @@ use Rattle.gps_chips.specs.Chips.{by_the_machine, by_the_standards}
 use Rattle.lines.specs.Lines.{line_reply}
 use Rattle.line_programs.specs.Lines.{ended, unended, joined, AllPlain}
 use Rattle.line_programs.specs.Dialogs.{Course, fed_with}
-use Rattle.texts.proofs.Saying.{Plain}
+use Rattle.texts.specs.Saying.{Plain}
 
 -- ---- the whole output
 
