@@ -92,6 +92,7 @@ check_row() {
                 elif path=$(found "$span"); then
                     files=$((files + 1)) citations=$((citations + 1))
                     cites+=("$path")
+                    case $path in crates/*/proofs/*) wrong "a proof is cited: $span" ;; esac
                 else
                     wrong "neither an edit nor a file: $span"
                 fi
