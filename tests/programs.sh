@@ -95,6 +95,22 @@ check_write_errors() {
     fi
 }
 
+# A read or a write that a signal interrupted is made again. The program handles no signal, so a library stands in for the system's calls.
+check_interrupted() {
+    local library=$out/interrupted.so
+    if ! command -v "${CC:-cc}" >/dev/null; then
+        echo "interrupted reads and writes: not tested, there is no C compiler"
+        return
+    fi
+    "${CC:-cc}" -shared -fPIC -O2 -Wall -Wextra -Werror tests/interrupted.c -o "$library"
+    rm -f "$out/interrupted"
+    INTERRUPTED=$out/interrupted LD_PRELOAD=$library "$program" <"$input" >"$out/stdout" 2>"$out/stderr" || fail "interrupted calls: status $?"
+    [ -e "$out/interrupted" ] || fail "interrupted calls: none was interrupted"
+    cmp -s "$expected" "$out/stdout" || fail "interrupted calls: expected the bytes of $expected, got others in $out/stdout"
+    [ ! -s "$out/stderr" ] || fail "interrupted calls: expected nothing on standard error, got: $(cat "$out/stderr")"
+    echo "every other read and write interrupted: the same answers"
+}
+
 # check_arguments ARGUMENTS..: arguments are not taken for input: nothing is read, and it says what it does.
 check_arguments() {
     local arguments

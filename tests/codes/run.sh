@@ -21,5 +21,6 @@ check_unfinished '2 1 0 12' 'refused 9'
 check_many
 check_prompt_answer '2 1 0 12' '2 1 0 100100100100'
 check_read_errors
+check_interrupted
 check_write_errors '2 1 0 12'
 check_arguments --help "2 1 0 12" "2 1"

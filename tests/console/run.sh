@@ -59,5 +59,6 @@ check_channels
 check_greeting
 check_prompt_answer 'open 2 1' 'ok 2/1/0/0/137438953471/584.0.0.R/1364.0.0.R/2341.0.0.R/1364.0.0.R'
 check_read_errors
+check_interrupted
 check_write_errors 'open 2 1'
 check_arguments --help "open 2 1" -

@@ -13,17 +13,17 @@ loop-call-preserved g c =
     (search rules) (search rules) (search rules)
 
 pub returns-clause-opened : goal.returns-clause-opened
-returns-clause-opened g c = opens c.args.signal c.args.prn (sym c.in_ok-ch.ensures)
+returns-clause-opened g c = opens c.args.signal c.args.prn (sym c.in_ok-ch.ensures.reply)
 
 pub returns-clause-list : goal.returns-clause-list
 returns-clause-list g c =
     let end = along_at_end g.T.Listener.has_heard c.loop-call-test.false c.loop-call.invariant in
-    (_, replies_told c.args.signal c.args.prn (sym c.in_ok-ch.ensures) end, list_right c.args.signal c.args.prn (sym c.in_ok-ch.ensures) end)
+    (_, replies_told c.args.signal c.args.prn (sym c.in_ok-ch.ensures.reply) end, list_right c.args.signal c.args.prn (sym c.in_ok-ch.ensures.reply) end)
 
 pub returns-clause-replies : goal.returns-clause-replies
 returns-clause-replies g c =
-    replies_told c.args.signal c.args.prn (sym c.in_ok-ch.ensures) (along_at_end g.T.Listener.has_heard c.loop-call-test.false c.loop-call.invariant)
+    replies_told c.args.signal c.args.prn (sym c.in_ok-ch.ensures.reply) (along_at_end g.T.Listener.has_heard c.loop-call-test.false c.loop-call.invariant)
 
 pub returns-clause-memory : goal.returns-clause-memory
 returns-clause-memory g c =
-    memory_right c.args.signal c.args.prn (sym c.in_ok-ch.ensures) (along_at_end g.T.Listener.has_heard c.loop-call-test.false c.loop-call.invariant)
+    memory_right c.args.signal c.args.prn (sym c.in_ok-ch.ensures.reply) (along_at_end g.T.Listener.has_heard c.loop-call-test.false c.loop-call.invariant)
