@@ -1,5 +1,6 @@
 -- EVERY SCRIPT of lines makes its list of calls.
 --     answered_as, left_as    the answer to a call on `.`, and what `.` stands for after it
+--     step_asks               there are lines that ask for a call
 --     every_script            the answers to a script are the texts of its calls' replies
 -- Assumes nothing.
 use Prim.Native.Nat.{ℕ}
@@ -14,12 +15,13 @@ use Rattle.call_open.specs.Open.{OpenReply, open_reply, channel}
 use Rattle.call_window.specs.Window.{window_reply}
 use Rattle.lists.specs.Lists.{Call, reply_to, replies, handed_back}
 use Rattle.lists.proofs.EveryList.{every_list}
+use Rattle.commands.specs.Commands.{command_of, read_step, read_named}
 use Rattle.commands.specs.declared.Command.{Command}
 use Rattle.commands.specs.declared.Command.TheVariants as commands
 use Rattle.answer_lines.specs.Lines.{error_line, most_length}
 use Rattle.channel_answers.specs.ChannelAnswers.{open_line, window_line, opened_last}
 use Rattle.sessions.specs.Sessions.{answer_of, last_of, command_in, answers_to}
-use Rattle.sessions.specs.Scripts.{command_on, IsBlank, Asks, AllAsk, line_of, lines_of, last_after, ScriptOfLines, EveryScript}
+use Rattle.sessions.specs.Scripts.{command_on, IsBlank, Asks, AllAsk, line_of, lines_of, last_after, ScriptOfLines, EveryScript, StepAsks}
 
 module _ (help : List ℕ) (ch : Channel) where
   answered_as : (c : Call) → IsBlank c → answer_of help (Some (command_on ch c)) ≡ line_of c (reply_to ch c)
@@ -69,3 +71,7 @@ every_script help last signal prn ch opened first asks lines calls all =
       dot = ap (λ (d : Option Channel). last_after d lines) dot ∙ left_along help ch lines calls all;
       list = every_list signal prn ch opened calls;
     }
+
+pub step_asks : StepAsks
+unfolding command_of read_step read_named
+step_asks = record { command = λ ch. refl; blank = tt }

@@ -28,6 +28,10 @@ pub record Asks (line : List ℕ) (c : Call) : Type 0 where
   pub command : (ch : Channel) → command_in (Some ch) line ≡ Some (command_on ch c)
   pub blank : IsBlank c
 
+-- for one, the line "step ." asks for a step
+abbrev pub StepAsks : Type 0
+StepAsks = Asks (115 ∷ 116 ∷ 101 ∷ 112 ∷ 32 ∷ 46 ∷ []) Call.step
+
 -- each line for one of the calls, in order
 abbrev pub AllAsk : List (List ℕ) → List Call → Type 0
 AllAsk [] [] = ⊤

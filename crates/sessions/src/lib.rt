@@ -5,7 +5,7 @@ ghost use Rattle.std.specs.Prelude.{◌≡◌, ◌++◌, ◌+◌, ◌≤◌, len
 ghost use Rattle.arrayvec.specs.ArrayVec.{array_vec_len};
 ghost use Rattle.commands.specs.Commands.{command_of};
 ghost use Rattle.sessions.specs.Sessions.{Talk as Standing, answer_of, last_of, talk, course, EverySession};
-ghost use Rattle.sessions.specs.Scripts.{EveryScript};
+ghost use Rattle.sessions.specs.Scripts.{EveryScript, StepAsks};
 ghost use Rattle.sessions.specs.Laws.{laws};
 ghost use Rattle.answer_lines.specs.declared.TheConstants.{ROOM as longest};
 
@@ -114,5 +114,6 @@ pub fn every_session()
 // Every script: lines that open a channel and then ask for calls on `.` are answered with the texts of that list of calls, and leave `.` at the channel that it
 // hands back; and of these holds what holds of every list of calls.
 pub fn every_script()
-    ensures { EveryScript }
+    ensures scripts { EveryScript }
+    ensures asked { StepAsks }
 {}
