@@ -78,25 +78,6 @@ pub struct Sought {
     pub channel: Channel,
 }
 
-// What a seek answers, and how many single steps it took, of X2A and of X2B each. The call seek answers the first alone.
-#[derive(Clone, Copy, Debug, PartialEq, Eq)]
-pub struct Landed {
-    pub sought: Sought,
-    pub steps: SingleSteps,
-}
-
-// A channel that was brought to its place by leaps alone.
-#[inline(always)]
-fn by_leaps_alone(sought: Sought) -> Landed
-    ensures sought { result.sought ≡ sought }
-    ensures steps { result.steps ≡ 0 }
-{
-    Landed {
-        sought,
-        steps: SingleSteps::none(),
-    }
-}
-
 // A signal with at most two generators, which are handed in. What it lacks is 0 and running.
 fn plain_at(
     signal: Signal,
@@ -139,11 +120,11 @@ fn land_ca(prn: Prn, place: u64) -> Sought
     )
 }
 
-// P, whose delay line is filled from the places before.
-fn land_p(prn: Prn, place: u64) -> Landed
+// P, whose delay line is filled from the places before, by single steps that are told in `steps`.
+fn land_p(prn: Prn, place: u64, steps: &mut SingleSteps) -> Sought
     requires { place < week_p }
-    ensures sought { result.sought ≡ landed (signal_p prn.number) courses_p 2 prn.number place }
-    ensures steps { result.steps ≡ min 37 place }
+    ensures sought { result ≡ landed (signal_p prn.number) courses_p 2 prn.number place }
+    ensures steps { steps.new ≡ min 37 place }
 {
     let from = filled_from(place);
     let x1a = generators_at::seek::<X1A>(X1A::START, place, Leaps::none());
@@ -151,6 +132,7 @@ fn land_p(prn: Prn, place: u64) -> Landed
     let x2a = generators_at::seek::<X2A>(X2A::START, from, x1b.count);
     let x2b = generators_at::seek::<X2B>(X2B::START, from, x2a.count);
     let filled = fill_line(from, place, x2a.value, x2b.value);
+    *steps = filled.steps;
     let channel = Channel {
         signal: Signal::P.number(),
         prn: prn.number,
@@ -162,13 +144,9 @@ fn land_p(prn: Prn, place: u64) -> Landed
         third: filled.third,
         fourth: filled.fourth,
     };
-    let sought = Sought {
+    Sought {
         leaps: x2b.count.number(),
         channel,
-    };
-    Landed {
-        sought,
-        steps: filled.steps,
     }
 }
 
@@ -199,30 +177,32 @@ fn land_l5(signal: Signal, prn: Prn, start: u32, place: u64) -> Sought
     plain_at(signal, prn, place, xa.value, xb.value, xb.count.number())
 }
 
-// The channel of a signal and a PRN at a place of the week, which has to lie below the signal's W, with its leaps and its single steps counted. An arm for
-// each signal: the compiler names each `match` that lacks one.
-#[inline(always)]
-pub fn land_counted(signal: Signal, prn: Prn, place: u64) -> Landed
+// The channel of a signal and a PRN at a place of the week, which has to lie below the signal's W, with its leaps counted, and in `steps` the single steps, of X2A
+// and of X2B each. They are no part of the answer: the call seek does not tell them, and a channel that is handed on with them would be copied. An arm for each
+// signal: the compiler names each `match` that lacks one.
+pub fn land_counted(signal: Signal, prn: Prn, place: u64, steps: &mut SingleSteps) -> Sought
     requires { place < week_of (number_of signal) }
-    ensures sought { result.sought ≡ landed_at (number_of signal) prn.number place }
-    ensures steps { result.steps ≡ single_steps (number_of signal) prn.number place }
+    ensures sought { result ≡ landed_at (number_of signal) prn.number place }
+    ensures steps { steps.new ≡ single_steps (number_of signal) prn.number place }
 {
+    *steps = SingleSteps::none();
     match signal {
-        Signal::Ca => by_leaps_alone(land_ca(prn, place)),
-        Signal::P => land_p(prn, place),
-        Signal::L2Cm => by_leaps_alone(land_l2::<Cm>(signal, prn, starts::start_cm(prn), place)),
-        Signal::L2Cl => by_leaps_alone(land_l2::<Cl>(signal, prn, starts::start_cl(prn), place)),
-        Signal::I5 => by_leaps_alone(land_l5(signal, prn, starts::start_i5(prn), place)),
-        Signal::Q5 => by_leaps_alone(land_l5(signal, prn, starts::start_q5(prn), place)),
+        Signal::Ca => land_ca(prn, place),
+        Signal::P => land_p(prn, place, steps),
+        Signal::L2Cm => land_l2::<Cm>(signal, prn, starts::start_cm(prn), place),
+        Signal::L2Cl => land_l2::<Cl>(signal, prn, starts::start_cl(prn), place),
+        Signal::I5 => land_l5(signal, prn, starts::start_i5(prn), place),
+        Signal::Q5 => land_l5(signal, prn, starts::start_q5(prn), place),
     }
 }
 
 // The same, with the leaps alone told, as the call seek tells them.
+#[inline(always)]
 pub fn land(signal: Signal, prn: Prn, place: u64) -> Sought
     requires { place < week_of (number_of signal) }
     ensures { result ≡ landed_at (number_of signal) prn.number place }
 {
-    land_counted(signal, prn, place).sought
+    land_counted(signal, prn, place, &mut SingleSteps::none())
 }
 
 // ---- a law

@@ -19,27 +19,27 @@ land_l5-requires-in-Q5-clause-start_in_register c = rw c.start_q5.ensures (start
 
 pub returns-in-Ca-clause-sought : goal.returns-in-Ca-clause-sought
 returns-in-Ca-clause-sought c =
-    rw c.in-Ca.is (c.by_leaps_alone.ensures.sought ∙ c.land_ca.ensures ∙ landed_is 1 c.args.prn.number c.args.place (rw c.in-Ca.is at c.requires))
+    rw c.in-Ca.is (c.land_ca.ensures ∙ landed_is 1 c.args.prn.number c.args.place (rw c.in-Ca.is at c.requires))
 
 pub returns-in-P-clause-sought : goal.returns-in-P-clause-sought
 returns-in-P-clause-sought c = rw c.in-P.is (c.land_p.ensures.sought ∙ landed_is 2 c.args.prn.number c.args.place (rw c.in-P.is at c.requires))
 
 pub returns-in-L2Cm-clause-sought : goal.returns-in-L2Cm-clause-sought
 returns-in-L2Cm-clause-sought c =
-    rw c.in-L2Cm.is (c.by_leaps_alone-in-L2Cm.ensures.sought ∙ (rw (c.in-L2Cm.is, c.start_cm.ensures) at c.land_l2.ensures)
+    rw c.in-L2Cm.is ((rw (c.in-L2Cm.is, c.start_cm.ensures) at c.land_l2.ensures)
     ∙ landed_is 3 c.args.prn.number c.args.place (rw c.in-L2Cm.is at c.requires))
 
 pub returns-in-L2Cl-clause-sought : goal.returns-in-L2Cl-clause-sought
 returns-in-L2Cl-clause-sought c =
-    rw c.in-L2Cl.is (c.by_leaps_alone-in-L2Cl.ensures.sought ∙ (rw (c.in-L2Cl.is, c.start_cl.ensures) at c.land_l2-in-L2Cl.ensures)
+    rw c.in-L2Cl.is ((rw (c.in-L2Cl.is, c.start_cl.ensures) at c.land_l2-in-L2Cl.ensures)
     ∙ landed_is 4 c.args.prn.number c.args.place (rw c.in-L2Cl.is at c.requires))
 
 pub returns-in-I5-clause-sought : goal.returns-in-I5-clause-sought
 returns-in-I5-clause-sought c =
-    rw c.in-I5.is (c.by_leaps_alone-in-I5.ensures.sought ∙ (rw (c.in-I5.is, c.start_i5.ensures) at c.land_l5.ensures)
+    rw c.in-I5.is ((rw (c.in-I5.is, c.start_i5.ensures) at c.land_l5.ensures)
     ∙ landed_is 5 c.args.prn.number c.args.place (rw c.in-I5.is at c.requires))
 
 pub returns-in-Q5-clause-sought : goal.returns-in-Q5-clause-sought
 returns-in-Q5-clause-sought c =
-    rw c.in-Q5.is (c.by_leaps_alone-in-Q5.ensures.sought ∙ (rw (c.in-Q5.is, c.start_q5.ensures) at c.land_l5-in-Q5.ensures)
+    rw c.in-Q5.is ((rw (c.in-Q5.is, c.start_q5.ensures) at c.land_l5-in-Q5.ensures)
     ∙ landed_is 6 c.args.prn.number c.args.place (rw c.in-Q5.is at c.requires))
