@@ -1,0 +1,4 @@
+pub mod Rows
+pub mod Lanes
+pub mod Rounds
+pub mod Sums

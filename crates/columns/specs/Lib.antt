@@ -1,0 +1,3 @@
+-- For the contracts of inner functions alone.
+pub mod Rows
+pub mod Columns
