@@ -12,6 +12,7 @@ use week::{Course, Coursed, Standing};
 // ---- where a generator stands. A course's facts are clauses: it is reckoned from any code's numbers, and the law `fits` of `Coursed` tells them of each.
 
 // n chips after its start, in a mode.
+#[inline(always)]
 fn on_cycle(cycle: u64, n: u64, mode: Mode) -> Standing
     requires cycle_some { 0 < cycle }
     requires n_in { n < 2 ^ 32 }
@@ -25,6 +26,7 @@ fn on_cycle(cycle: u64, n: u64, mode: Mode) -> Standing
 }
 
 // n chips after its start, within a period.
+#[inline(always)]
 #[tactic(auto, unfolding(week::specs::Standing::in_period))]
 fn in_period(c: Course, n: u64) -> Standing
     requires cycle_some { 0 < c.cycle }
@@ -41,6 +43,7 @@ fn in_period(c: Course, n: u64) -> Standing
 }
 
 // At a place of the week.
+#[inline(always)]
 #[tactic(auto, unfolding(week::specs::Standing::standing_at))]
 fn standing(c: Course, place: u64) -> Standing
     requires { Fits c place }
@@ -51,6 +54,15 @@ fn standing(c: Course, place: u64) -> Standing
     }
     let left = (c.week - 1 - place) as u32;
     on_cycle(c.cycle, c.stop % c.period, Mode::Held(left))
+}
+
+// Where a generator stands at a place of its week. Inlined, like what it calls, so that it divides by constants.
+#[inline(always)]
+pub fn standing_of<C: Coursed>(place: u64) -> Standing
+    requires { place < C.course.week }
+    ensures { result ≡ standing_at C.course place }
+{
+    standing(C::course(), place)
 }
 
 // ---- a generator at a place

@@ -38,6 +38,7 @@ pub struct Standing {
 }
 
 // Never held: whole periods, up to the week's end.
+#[inline(always)]
 fn unheld(week: u64, cycle: u64, period: u64) -> Course
     ensures { result ≡ unheld week cycle period }
 {
@@ -51,6 +52,7 @@ fn unheld(week: u64, cycle: u64, period: u64) -> Course
 }
 
 // Never held: all its cycles, time and again. The three plans are three formulas, each written once for every type.
+#[inline(always)]
 fn unheld_course<C: Code>(week: u64) -> Course
     requires { C.kind.highest < 2 ^ 12 }
     ensures { result ≡ unheld week (C.kind.last 0 + 1) ((C.kind.highest + 1) * (C.kind.last 0 + 1)) }
@@ -60,6 +62,7 @@ fn unheld_course<C: Code>(week: u64) -> Course
 }
 
 // Held at the last chip of its last cycle, with so many chips still to repeat.
+#[inline(always)]
 fn held_course<C: Code>(stop: u64, chips: u32) -> Course
     requires { C.kind.highest < 2 ^ 12 }
     ensures { result ≡ held stop (C.kind.last 0 + 1) (C.kind.highest + 1) chips }
@@ -76,6 +79,7 @@ fn held_course<C: Code>(stop: u64, chips: u32) -> Course
 }
 
 // Of two cycles, the second cut short.
+#[inline(always)]
 fn cut_course<C: Code>() -> Course
     ensures { result ≡ unheld week_l5 (C.kind.last 0 + 1) ((C.kind.last 0 + 1) + (C.kind.last 1 + 1)) }
 {
