@@ -1,0 +1,5 @@
+pub mod Registers
+pub mod Words
+pub mod Ahead
+pub mod DelayLine
+pub mod Channels
