@@ -152,8 +152,7 @@ impl Sources {
 
 // Writes the chips of P of a PRN from a place on, round the week, over a slice: run by run, each up to where a generator is next held or let go.
 pub fn write(prn: Prn, place: u64, out: &mut [u8])
-    requires within { place < week_p }
-    requires one_call { length out.old ≤ 65536 }
+    requires { place < week_p }
     ensures { out.new ≡ map (standard 2 prn.number) (places_from week_p place (length out.old)) }
 {
     let mut here = place;

@@ -9,7 +9,7 @@ use Rattle.by_place_p.proofs.Runs.{chip_at, run_is}
 use Rattle.by_place_p.proofs.write.Goals as goal
 
 pub loop-written-init : goal.loop-written-init
-loop-written-init c = (omega (arith, c.requires.within), omega arith, filled_none (chip_at c.args.prn.number c.args.place) c.args.out.now)
+loop-written-init c = (omega (arith, c.requires), omega arith, filled_none (chip_at c.args.prn.number c.args.place) c.args.out.now)
 
 pub loop-written-preserved : goal.loop-written-preserved
 loop-written-preserved c =
