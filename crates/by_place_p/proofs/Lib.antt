@@ -1,0 +1,2 @@
+pub mod Feeding
+pub mod Runs
