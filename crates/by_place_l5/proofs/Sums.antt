@@ -6,7 +6,7 @@ use Rattle.std.proofs.Common.{◌≡◌, ℕ, ◌+◌, ◌%◌, ◌<◌, List, m
 use Rattle.registers.specs.Times.{times}
 use Rattle.registers.specs.Register.{stage, shift_xa, shift_xb}
 use Rattle.starts.specs.Starts.{start_xa, entry_of, advances_i5, advances_q5, advanced_xb}
-use Rattle.standard.specs.Standard.{standard, xa, xb}
+use Rattle.standard.specs.Standard.{standard}
 use Rattle.standard.specs.Tables.{of_prn}
 use Rattle.standard.proofs.SameRegisters.{xa_chip, xb_chip, lists_same}
 use Rattle.standard.proofs.Sequences.{advanced}

@@ -12,4 +12,4 @@ pub returns-clause-within : goal.returns-clause-within
 unfolding code_delays
 returns-clause-within c =
     let l = c.args.prn.listed in
-    rw (c.row.ensures.row) (ltb→lt _ 1023 (at 37 (λ k. ltb (get_or code_delays k 0) 1023) tt (c.args.prn.number - 1) (omega (arith, l.first, l.last))))
+    rw (c.row.ensures.row) (ltb→lt (get_or code_delays (c.args.prn.number - 1) 0) 1023 (at 37 (λ k. ltb (get_or code_delays k 0) 1023) tt (c.args.prn.number - 1) (omega (arith, l.first, l.last))))
