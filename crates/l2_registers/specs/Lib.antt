@@ -1,0 +1,2 @@
+-- For the contracts of inner functions alone.
+pub mod Moves
