@@ -20,7 +20,7 @@ use Rattle.machine.proofs.Chips.{chips-length}
 use Rattle.machine.proofs.RangeLaw.{reached_in}
 use Rattle.week.proofs.LawOfTheWeek.{law_of_the_week, weeks_pass}
 use Rattle.standard.proofs.EveryChip.{every_window}
-use Rattle.digits.proofs.Rows.{put_back}
+use Rattle.columns.proofs.Rows.{put_back}
 use Rattle.replies.specs.Reply.{Reply, written}
 use Rattle.call_window.specs.Window.{most_chips, written_with, unwritten_with, window_reply, Cases, standard_chips, ByTheStandards}
 

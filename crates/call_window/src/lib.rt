@@ -19,7 +19,7 @@ pub fn window(ch: Channel, count: u64, buffer: &mut [u8], at: u64) -> Result<Cha
     ensures by_the_standards { ByTheStandards ch count buffer.old at (of_windowed count at buffer.new result) }
 {
     let ch = InRange::try_from(ch)?.channel;
-    if windows::MOST_CHIPS < count {
+    if by_place::MOST_CHIPS < count {
         return Err(Refused {
             refusal: Refusal::Count,
             channel: ch,

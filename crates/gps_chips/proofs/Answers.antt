@@ -4,13 +4,12 @@
 --     agree     the buffer filled by the machine is the buffer filled by the standards, whatever the call
 -- Assumes nothing.
 use mathlib.Core.Bool.{Bool, true, false, cond}
-use mathlib.Core.List.{List, ◌++◌, append-nil}
-use mathlib.Core.Path.{◌≡◌, refl, sym, ap, ◌∙◌}
+use mathlib.Core.List.{List}
+use mathlib.Core.Path.{◌≡◌, refl, sym}
 use Prim.Native.Nat.{ℕ, ◌≤◌, ◌<◌}
-use native.Mathlib.Nat.{le_refl}
 use native.Mathlib.Omega.{arith}
 use lib.Dec.{ltb, leb, eqb}
-use lib.ListN.{length, drop, drop_of_length-le}
+use lib.ListN.{length}
 use borrow.Author.Tests.{ltb-true, leb-true, eqb-true, lt-ltb, le-leb}
 use Rattle.machine.specs.Signals.{week_of}
 use Rattle.machine.specs.Machine.{opened, advance, chips, is_signal, is_prn}
@@ -57,13 +56,10 @@ module _ (signal prn place : ℕ) (buffer : List ℕ) where
           every_window signal prn a.is_signal a.is_prn n place
       by false e = refl
 
-  -- the chips from that place, and behind them nothing
+  -- the chips from that place
   pub filled : Admitted signal prn place (length buffer) → (after : List ℕ)
-      → after ≡ chips (length buffer) (advance place (opened signal prn)) ++ drop (length buffer) buffer → after ≡ chips_buffer by_the_machine signal prn place buffer
+      → after ≡ chips (length buffer) (advance place (opened signal prn)) → after ≡ chips_buffer by_the_machine signal prn place buffer
   unfolding chips_buffer
   filled a after is =
       let none : chips_answer signal prn place (length buffer) ≡ 0 = sym (fits signal prn place (length buffer) a) in
-      simp none
-      (is
-      ∙ ap (λ (l : List ℕ). chips (length buffer) (advance place (opened signal prn)) ++ l) (drop_of_length-le buffer {i = length buffer} (le_refl (length buffer)))
-      ∙ append-nil (chips (length buffer) (advance place (opened signal prn))))
+      simp none is

@@ -2,21 +2,18 @@
 -- Assumes nothing.
 use mathlib.Core.List.{List, [], ◌∷◌, ◌++◌, append-nil}
 use mathlib.Core.Path.{◌≡◌, sym, ap, ◌∙◌}
-use Prim.Native.Nat.{ℕ, ◌≤◌, ◌<◌, ◌+◌}
+use Prim.Native.Nat.{ℕ, ◌+◌}
 use native.Mathlib.Omega.{arith}
 use lib.ListN.{length, drop_of_length-le}
-use Rattle.machine.specs.Signals.{week_of}
 use Rattle.machine.specs.Machine.{opened, advance, chips}
 use Rattle.machine.specs.declared.Channel.{Channel}
 use Rattle.machine.proofs.Advance.{advance_none}
 use Rattle.machine.proofs.Chips.{chips-length}
 use Rattle.machine.proofs.RangeLaw.{reached_in}
 use Rattle.replies.specs.Reply.{Reply, written}
-use Rattle.call_open.specs.Open.{open_reply, channel}
 use Rattle.call_open.proofs.Opens.{open_accepted}
 use Rattle.call_seek.specs.Seek.{seek_reply}
 use Rattle.call_seek.proofs.Seeks.{seeks_accepted}
-use Rattle.call_window.specs.Window.{most_chips, window_reply}
 use Rattle.call_window.proofs.Windows.{window_accepted}
 use Rattle.gps_chips.specs.Chips.{chips_buffer, by_the_machine, AsAWindow}
 use Rattle.gps_chips.proofs.Answers.{fits}

@@ -21,10 +21,9 @@ pub fn gps_chips(signal: u64, prn: u64, place: u64, buffer: &mut [u8]) -> Result
     if signal.week() <= place {
         return Err(Refusal::Place);
     }
-    if windows::MOST_CHIPS < buffer.len() as u64 {
+    if by_place::MOST_CHIPS < buffer.len() as u64 {
         return Err(Refusal::Count);
     }
-    let there = seeks::land(signal, prn, place).channel;
-    windows::write_chips(there, buffer.len(), buffer);
+    by_place::write_chips(signal, prn, place, buffer);
     Ok(())
 }

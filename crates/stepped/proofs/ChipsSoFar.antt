@@ -2,17 +2,15 @@
 --     of_signal   a channel in range is of the signal that its number names
 --     begun       none written
 --     one_more    one more chip written and one more step made
---     part_more   a part of the slice written over with the chips of more steps
 --     ended       all written
 -- Assumes nothing.
-use Prim.Native.Nat.{ℕ, ◌+◌, ◌-◌, ◌<◌, ◌≤◌, zero-le}
-use mathlib.Core.Path.{◌≡◌, refl, sym, ap, ap₂, ◌∙◌}
+use Prim.Native.Nat.{ℕ, ◌+◌, ◌<◌, ◌≤◌, zero-le}
+use mathlib.Core.Path.{◌≡◌, refl, sym, ap, ◌∙◌}
 use mathlib.Core.List.{List, [], ◌∷◌, ◌++◌, append-nil}
 use native.Mathlib.Numerals.{add-one}
 use native.Mathlib.Omega.{arith}
-use lib.ListN.{length, take, drop, set, length-take, length-drop, length-append, drop_of_length-le}
-use lib.Seq.{set_split, drop-drop}
-use borrow.Rule.Slice.PartMut.{mid_of, put_mid}
+use lib.ListN.{length, take, drop, set, length-drop, length-append, drop_of_length-le}
+use lib.Seq.{set_split}
 use Rattle.machine.specs.Signals.{Signal, signal_of}
 use Rattle.machine.specs.Machine.{step_as, step, advance, chips}
 use Rattle.machine.specs.Ranged.{Ranged}
@@ -21,7 +19,7 @@ use Rattle.machine.proofs.Advance.{advance_none, advance_one, advance-add, advan
 use Rattle.machine.proofs.Chips.{chips_one, chips-length, chips-add}
 use Rattle.machine.proofs.Numbered.{fields_as, step_is, chip_is}
 use Rattle.machine.proofs.RangeLaw.{step_ranged}
-use Rattle.digits.proofs.Rows.{put_behind}
+use Rattle.columns.proofs.Rows.{put_behind}
 use Rattle.stepped.specs.Inner.{Of}
 
 -- ---- the channel
@@ -84,17 +82,6 @@ module _ (s : ℕ → Signal) (count : ℕ) (old : List ℕ) (start : Channel) w
       let first : chips 1 here ≡ b ∷ [] = chips_one here ∙ ap (λ (x : ℕ). x ∷ []) (chip_is here w.is.named ∙ sym b-is) in
       more new (set new n b) here next n 1 w (omega (arith, h)) (rw (first, add-one) (set_split new n b fits))
       (next-is ∙ sym (step_is here w.is.named) ∙ sym (advance_one here))
-
-  pub part_more : (new part : List ℕ) (here next : Channel) (n k : ℕ) → SoFar s count old start new here n → n + k ≤ count
-      → (next ≡ advance (length (mid_of n (n + k - n) new)) here) × (part ≡ chips (length (mid_of n (n + k - n) new)) here)
-      → SoFar s count old start (put_mid n (n + k - n) new part) next (n + k)
-  part_more new part here next n k w h made =
-      let all : n + k - n ≡ k = omega arith in
-      let long : length (mid_of n (n + k - n) new) ≡ k = simp (length-take, length-drop) (omega (arith, h, w.room, w.same)) in
-      more new (put_mid n (n + k - n) new part) here next n k w h
-      (ap₂ (λ (l : List ℕ) (j : ℕ). take n new ++ (l ++ drop j (drop n new))) (made.1 ∙ ap (λ (j : ℕ). chips j here) long) all
-      ∙ ap (λ (l : List ℕ). take n new ++ (chips k here ++ l)) (drop-drop k n new))
-      (made.0 ∙ ap (λ (j : ℕ). advance j here) long)
 
   pub ended : (new : List ℕ) (here : Channel) (n : ℕ) → SoFar s (length old) old start new here n → n ≡ length old
       → (here ≡ advance (length old) start) × (new ≡ chips (length old) start)

@@ -1,6 +1,6 @@
--- A channel of a signal that is told, runs of steps, and windows, for the contracts of inner functions.
+-- A channel of a signal that is told, and windows, for the contracts of inner functions.
 -- Assumes nothing.
-use Rattle.std.specs.Prelude.{ℕ, ◌≡◌, ◌<◌, ◌≤◌, List, length, Option, MatchOption, ⊤}
+use Rattle.std.specs.Prelude.{ℕ, ◌≡◌, List, length}
 use Rattle.machine.specs.Signals.{Signal, signal_of}
 use Rattle.machine.specs.Machine.{advance, chips}
 use Rattle.machine.specs.Ranged.{RangedAs, Ranged}
@@ -11,10 +11,6 @@ pub record Of (s : ℕ → Signal) (ch : Channel) : Type 0 where
   pub ranged : Ranged ch
   pub named : signal_of ch.signal ch.prn ≡ s ch.prn
   pub fields : RangedAs (s ch.prn) ch
-
--- no run, or one of at least one step and at most so many
-abbrev pub RunAtMost : ℕ → (ℕ → Type 0) → Option ℕ → Type 0
-RunAtMost most is_run r = MatchOption r ⊤ (λ n. (0 < n) × (n ≤ most) × is_run n)
 
 -- a window over a slice: a channel's next chips stand in it, one in each byte, and the channel has moved on by as many steps
 abbrev pub WindowFrom : Channel → List ℕ → List ℕ → Channel → Type 0

@@ -1,6 +1,5 @@
 // Windows step by step: the chips of so many steps of a channel in range, written over a slice, and the channel so many steps on. What a PRN decides
-// is looked up once a window and not once a chip, and stands in the value of its family. Short windows are written so, the chips between two runs, and
-// channels whose registers are not the ones of their phases: of P and L5 until they are, of C/A all along.
+// is looked up once a window and not once a chip, and stands in the value of its family. So channels are written that are not the machine's at their place.
 #![tactic(auto)]
 
 ghost use Rattle.machine.specs.Ranged.{Ranged};
@@ -11,13 +10,11 @@ use machine::Channel;
 use signals::{Prn, Signal};
 
 mod families;
-mod runs;
 
-pub use families::{Ca, Cl, Cm, Family, L2, L5, P};
-pub use runs::{Runs, write_by_runs};
+use families::{Ca, Cl, Cm, Family, L5, P};
 
 // Writes the chips of a channel of a family over a slice, and gives the channel after them.
-pub fn write<F: Family>(family: F, ch: Channel, out: &mut [u8]) -> Channel
+fn write<F: Family>(family: F, ch: Channel, out: &mut [u8]) -> Channel
     requires of { Of (F.signal family) ch }
     requires decided { F.decided family ch.prn }
     ensures { WindowFrom ch out.old out.new result }

@@ -1,44 +1,36 @@
 // Windows of any signal: the chips of so many steps of a channel in range, written to the front of a slice, and the channel so many steps on.
 #![tactic(auto)]
 
-ghost use Rattle.std.specs.Prelude.{◌≡◌, ◌++◌, ◌≤◌, length, drop};
-ghost use Rattle.machine.specs.Machine.{advance, chips};
+ghost use Rattle.std.specs.Prelude.{◌≡◌, ◌↔◌, IsTrue, ◌++◌, ◌<◌, ◌≤◌, length, drop};
+ghost use Rattle.machine.specs.Machine.{advance, opened, chips};
 ghost use Rattle.machine.specs.Ranged.{Ranged};
+ghost use Rattle.machine.specs.Signals.{week_of};
+ghost use Rattle.signals.specs.Signals.{number_of};
 ghost use Rattle.stepped.specs.Inner.{WindowFrom};
 
 use machine::Channel;
 use signals::{Prn, Signal};
-use stepped::{Ca, Cl, Cm};
-use windows_l5::Start;
 
-// The most chips that one call writes.
-pub const MOST_CHIPS: u64 = 65_536;
-
-// A window that is shorter than this is stepped: by tables L2's would take longer.
-const SHORT: usize = 24;
-
-// Writes the chips of a channel in range over a slice, by the tables of its signal, and gives the channel after them. That it is in range is a clause here and
-// below: an `InRange` would be made of the channel that a seek gives, only to be taken apart here.
-// An arm for each signal: the compiler names each `match` that lacks one. Apart from the one of `stepped::write_chips`: each arm names another crate's function.
-fn write_by_tables(ch: Channel, out: &mut [u8]) -> Channel
-    requires { Ranged ch }
-    ensures { WindowFrom ch out.old out.new result }
+// Whether two channels are the same, field by field.
+fn same(a: Channel, b: Channel) -> bool
+    ensures { IsTrue result ↔ (a ≡ b) }
 {
-    let prn = Prn { number: ch.prn };
-    match Signal::of(ch.signal) {
-        Signal::Ca => {
-            let stages = starts::stages_ca(prn);
-            windows_ca::write(Ca { stages }, ch, out)
-        }
-        Signal::P => windows_p::write(ch, out),
-        Signal::L2Cm => windows_l2::write(Cm::new(starts::start_cm(prn)), ch, out),
-        Signal::L2Cl => windows_l2::write(Cl::new(starts::start_cl(prn)), ch, out),
-        Signal::I5 => windows_l5::write(Start::of_i5(prn), ch, out),
-        Signal::Q5 => windows_l5::write(Start::of_q5(prn), ch, out),
-    }
+    a == b
 }
 
-// Writes the chips of `count` steps from a channel in range to the front of a slice, and gives the channel after them.
+// The window of the machine's own channel at a place: its chips are those by place, and the channel after them is the one at the place so many chips on.
+fn write_by_place(signal: Signal, prn: Prn, place: u64, out: &mut [u8]) -> Channel
+    requires { place < week_of (number_of signal) }
+    ensures { WindowFrom (advance place (opened (number_of signal) prn.number)) out.old out.new result }
+{
+    let next = (place + out.len() as u64) % signal.week();
+    by_place::write_chips(signal, prn, place, out);
+    channels_at::at(signal, prn, next)
+}
+
+// Writes the chips of `count` steps from a channel in range to the front of a slice, and gives the channel after them. Where the channel is the machine's at
+// its place, every field compared, and so is one that calls led to, the chips are those by place. Any other is stepped. That it is in range is a clause: an
+// `InRange` would be made of the channel that a call gives, only to be taken apart here.
 // A count beside the slice: by a rule of the project `window` lends its buffer from `at` onward, and so up to its end.
 #[inline(always)]
 pub fn write_chips(ch: Channel, count: usize, out: &mut [u8]) -> Channel
@@ -47,9 +39,11 @@ pub fn write_chips(ch: Channel, count: usize, out: &mut [u8]) -> Channel
     ensures { (result ≡ advance count ch) × (out.new ≡ chips count ch ++ drop count out.old) }
 {
     let part = &mut out[..count];
-    if count < SHORT {
-        stepped::write_chips(ch, part)
+    let signal = Signal::of(ch.signal);
+    let prn = Prn { number: ch.prn };
+    if same(ch, channels_at::at(signal, prn, ch.place)) {
+        write_by_place(signal, prn, ch.place, part)
     } else {
-        write_by_tables(ch, part)
+        stepped::write_chips(ch, part)
     }
 }

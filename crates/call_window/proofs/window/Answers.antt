@@ -3,7 +3,7 @@
 use Rattle.std.proofs.Common.{rules, arith}
 use Rattle.std.proofs.lemmas.Grind.{common_steps}
 use Rattle.call_window.specs.Window.{window_reply}
-use Rattle.call_window.proofs.Windows.{by_the_standards, window_written}
+use Rattle.call_window.proofs.Windows.{by_the_standards}
 use Rattle.call_window.proofs.window.Goals as goal
 
 pub returns-in_err-ch-clause-by_the_standards : goal.returns-in_err-ch-clause-by_the_standards

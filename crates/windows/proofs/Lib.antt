@@ -1,0 +1,2 @@
+pub mod SameChannel
+pub mod Round
