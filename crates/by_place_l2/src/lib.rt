@@ -18,7 +18,6 @@ const CYCLE_CL: usize = 767_250;
 // Writes the chips of L2 CM of a PRN from a place on, round the week, over a slice.
 pub fn write_cm(prn: Prn, place: u64, out: &mut [u8])
     requires within { place < week_l2 }
-    requires one_call { length out.old ≤ 65536 }
     ensures { out.new ≡ map (standard 3 prn.number) (places_from week_l2 place (length out.old)) }
 {
     let phase = (place % CYCLE_CM as u64) as u32;
@@ -28,7 +27,6 @@ pub fn write_cm(prn: Prn, place: u64, out: &mut [u8])
 // Writes the chips of L2 CL of a PRN from a place on, round the week, over a slice.
 pub fn write_cl(prn: Prn, place: u64, out: &mut [u8])
     requires within { place < week_l2 }
-    requires one_call { length out.old ≤ 65536 }
     ensures { out.new ≡ map (standard 4 prn.number) (places_from week_l2 place (length out.old)) }
 {
     let phase = (place % CYCLE_CL as u64) as u32;
@@ -42,7 +40,6 @@ fn write_round(start: u32, cycle: usize, phase: u32, out: &mut [u8])
     requires start_in { start < 2 ^ 27 }
     requires cycle_in { cycle ≤ 767250 }
     requires phase_in { phase < cycle }
-    requires one_call { length out.old ≤ 65536 }
     ensures { out.new ≡ row (λ j. chip_from start ((phase + j) % cycle)) (length out.old) }
 {
     let mut register = l2_registers::register_at(start, phase);
