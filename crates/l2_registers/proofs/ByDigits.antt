@@ -2,7 +2,8 @@
 --     moved_is      the seven entries of the table, added
 --     left, fewer   as many shifts as there are left, after one move more
 -- Assumes nothing.
-use Rattle.std.proofs.Common.{◌≡◌, ℕ, suc, ◌+◌, ◌*◌, ◌/◌, ◌%◌, ◌^◌, ◌<◌, ◌≤◌, List, get_or, take, bit_xor, arith, sym, ap, ap₂, ◌∙◌}
+use Rattle.std.proofs.Common.{◌≡◌, ℕ, suc, ◌+◌, ◌*◌, ◌/◌, ◌%◌, ◌^◌, ◌<◌, ◌≤◌, List, get_or, take, drop, bit_xor, arith, sym, ap, ap₂, ◌∙◌}
+use Rattle.std.proofs.lemmas.Simd.{get_or-chunk}
 use native.Mathlib.Nat.{pow-suc}
 use lib.Bits.{xor_comm, xor_shifted}
 use Rattle.registers.specs.Times.{times}
@@ -55,15 +56,22 @@ module _ (table : List ℕ) (is : table ≡ take 5408 (moves 7 (columns shift_l2
   abbrev n : ℕ
   n = m % 8 * 8 ^ (m / 8)
 
-  entry : (g x i : ℕ) → i ≡ m * 104 + (g * 16 + x % 16) → g * 16 + x % 16 < 104 → get_or table i 0 ≡ times shift_l2 n (x % 16 * 16 ^ g)
-  entry g x i e l = ap (λ j. get_or table j 0) e ∙ move_at table is m (g * 16 + x % 16) h l ∙ ap (times shift_l2 n) (digit_is g x)
+  abbrev digits : ℕ → List ℕ
+  digits k = take k (drop (m * 104) table)
 
-  pub moved_is : (r a b c d e f g : ℕ) → r < 2 ^ 27 → a ≡ m * 104 + r % 16 → b ≡ m * 104 + 16 + r / 16 % 16 → c ≡ m * 104 + 32 + r / 256 % 16
-      → d ≡ m * 104 + 48 + r / 4096 % 16 → e ≡ m * 104 + 64 + r / 65536 % 16 → f ≡ m * 104 + 80 + r / 1048576 % 16 → g ≡ m * 104 + 96 + r / 16777216
-      → bit_xor (bit_xor (bit_xor (get_or table a 0) (get_or table b 0)) (bit_xor (get_or table c 0) (get_or table d 0)))
-      (bit_xor (bit_xor (get_or table e 0) (get_or table f 0)) (get_or table g 0))
+  entry : (k g x i : ℕ) → k ≡ 104 → i ≡ g * 16 + x % 16 → g * 16 + x % 16 < 104 → get_or (digits k) i 0 ≡ times shift_l2 n (x % 16 * 16 ^ g)
+  entry k g x i whole e l =
+      get_or-chunk (m * 104) k table i 0 (omega (arith, whole, e, l))
+      ∙ ap (λ j. get_or table (m * 104 + j) 0) e
+      ∙ move_at table is m (g * 16 + x % 16) h l
+      ∙ ap (times shift_l2 n) (digit_is g x)
+
+  pub moved_is : (k r a b c d e f g : ℕ) → k ≡ 104 → r < 2 ^ 27 → a ≡ r % 16 → b ≡ 16 + r / 16 % 16 → c ≡ 32 + r / 256 % 16 → d ≡ 48 + r / 4096 % 16
+      → e ≡ 64 + r / 65536 % 16 → f ≡ 80 + r / 1048576 % 16 → g ≡ 96 + r / 16777216 % 16
+      → bit_xor (bit_xor (bit_xor (get_or (digits k) a 0) (get_or (digits k) b 0)) (bit_xor (get_or (digits k) c 0) (get_or (digits k) d 0)))
+      (bit_xor (bit_xor (get_or (digits k) e 0) (get_or (digits k) f 0)) (get_or (digits k) g 0))
       ≡ times shift_l2 n r
-  moved_is r a b c d e f g l ea eb ec ed ee ef eg =
+  moved_is k r a b c d e f g whole l ea eb ec ed ee ef eg =
       let lin = (times_linear l2.linear n).at_sum in
       let p0 = r % 16 * 16 ^ 0 in
       let p1 = r / 16 % 16 * 16 ^ 1 in
@@ -74,11 +82,11 @@ module _ (table : List ℕ) (is : table ≡ take 5408 (moves 7 (columns shift_l2
       let p6 = r / 16777216 % 16 * 16 ^ 6 in
       ap₂ bit_xor
       (ap₂ bit_xor
-      (ap₂ bit_xor (entry 0 r a (omega (arith, ea)) (omega arith)) (entry 1 (r / 16) b (omega (arith, eb)) (omega arith)))
-      (ap₂ bit_xor (entry 2 (r / 256) c (omega (arith, ec)) (omega arith)) (entry 3 (r / 4096) d (omega (arith, ed)) (omega arith))))
+      (ap₂ bit_xor (entry k 0 r a whole (omega (arith, ea)) (omega (arith, l))) (entry k 1 (r / 16) b whole (omega (arith, eb)) (omega (arith, l))))
+      (ap₂ bit_xor (entry k 2 (r / 256) c whole (omega (arith, ec)) (omega (arith, l))) (entry k 3 (r / 4096) d whole (omega (arith, ed)) (omega (arith, l)))))
       (ap₂ bit_xor
-      (ap₂ bit_xor (entry 4 (r / 65536) e (omega (arith, ee)) (omega arith)) (entry 5 (r / 1048576) f (omega (arith, ef)) (omega arith)))
-      (entry 6 (r / 16777216) g (omega (arith, eg, l)) (omega (arith, l))))
+      (ap₂ bit_xor (entry k 4 (r / 65536) e whole (omega (arith, ee)) (omega (arith, l))) (entry k 5 (r / 1048576) f whole (omega (arith, ef)) (omega (arith, l))))
+      (entry k 6 (r / 16777216) g whole (omega (arith, eg)) (omega (arith, l))))
       ∙ sym
       (ap (times shift_l2 n) (by_digits r l)
       ∙ lin (bit_xor (bit_xor p0 p1) (bit_xor p2 p3)) (bit_xor (bit_xor p4 p5) p6)

@@ -2,7 +2,7 @@
 // a table of what so many shifts make of the register's hexadecimal digits.
 #![tactic(auto)]
 
-ghost use Rattle.std.specs.Prelude.{◌≡◌, ◌*◌, ◌/◌, ◌%◌, ◌<◌, ◌^◌, take};
+ghost use Rattle.std.specs.Prelude.{◌≡◌, ◌+◌, ◌*◌, ◌/◌, ◌%◌, ◌<◌, ◌^◌, take};
 ghost use Rattle.registers.specs.Times.{times};
 ghost use Rattle.registers.specs.Register.{shift_l2};
 ghost use Rattle.registers.specs.Row.{columns};
@@ -18,24 +18,30 @@ fn table() -> &'static [u32; 5408]
     &tables::MOVES
 }
 
-// A register moved by move m of the table: of each of its hexadecimal digits the table has what
-// becomes of it, and the seven are added.
+// Where the 104 numbers of a move have the register's hexadecimal digit g.
+#[inline(always)]
+fn entry(register: u32, g: u32) -> usize
+    requires register_in { register < 2 ^ 27 }
+    requires digit_in { g < 7 }
+    ensures is { result ≡ g * 16 + register / 2 ^ (4 * g) % 16 }
+    ensures within { result < 104 }
+{
+    (g * 16 + (register >> (4 * g)) % 16) as usize
+}
+
+// A register moved by move m of the table: what becomes of its seven hexadecimal digits, added.
 #[inline(always)]
 fn moved(register: u32, m: usize) -> u32
     requires register_in { register < 2 ^ 27 }
     requires in_table { m < 52 }
     ensures { result ≡ times shift_l2 (m % 8 * 8 ^ (m / 8)) register }
 {
-    let table = table();
-    let at = m * 104;
-    let a = at + (register % 16) as usize;
-    let b = at + 16 + ((register >> 4) % 16) as usize;
-    let c = at + 32 + ((register >> 8) % 16) as usize;
-    let d = at + 48 + ((register >> 12) % 16) as usize;
-    let e = at + 64 + ((register >> 16) % 16) as usize;
-    let f = at + 80 + ((register >> 20) % 16) as usize;
-    let g = at + 96 + (register >> 24) as usize;
-    ((table[a] ^ table[b]) ^ (table[c] ^ table[d])) ^ ((table[e] ^ table[f]) ^ table[g])
+    let digits = &table()[m * 104..m * 104 + 104];
+    let a = digits[entry(register, 0)] ^ digits[entry(register, 1)];
+    let b = digits[entry(register, 2)] ^ digits[entry(register, 3)];
+    let c = digits[entry(register, 4)] ^ digits[entry(register, 5)];
+    let d = digits[entry(register, 6)];
+    (a ^ b) ^ (c ^ d)
 }
 
 // The register after as many shifts as a phase of L2 CM or L2 CL has, from a start of 27 stages.

@@ -1,7 +1,8 @@
-// The chips of an L2 register, 128 a turn, by the bytes of the register.
+// The chips of an L2 register (IS-GPS-200 3.3.2.4), 128 a turn: a register is the sum modulo 2 of
+// its bytes, and what it gives is the sum of what they give.
 #![tactic(auto)]
 
-ghost use Rattle.std.specs.Prelude.{ℕ, ◌≡◌, ◌<◌, ◌^◌, length};
+ghost use Rattle.std.specs.Prelude.{ℕ, ◌≡◌, ◌+◌, ◌*◌, ◌/◌, ◌%◌, ◌<◌, ◌^◌, length};
 ghost use Rattle.registers.specs.Times.{times};
 ghost use Rattle.registers.specs.Register.{shift_l2};
 ghost use Rattle.columns.specs.Columns.{chip_in};
@@ -12,34 +13,46 @@ use std::simd::prelude::*;
 
 mod tables;
 
+// The columns of the 128 chips of each register that has one byte alone: entry 256 g + b, of sixteen
+// columns, is of the register whose byte g is b.
 #[tactic(auto, unfolding(crate::specs::Turns::rows_of, crate::specs::Turns::registers_of, columns::specs::Columns::chips_of, columns::specs::Columns::beside, columns::specs::Columns::columns, registers::specs::Times::times, registers::specs::Register::shift_l2, registers::specs::Register::stage))]
-pub fn rows() -> &'static [u8; 12416]
+fn rows() -> &'static [u8; 12416]
     ensures { result.now ≡ rows_of 776 0 }
 {
     &tables::ROWS
 }
 
+// And the register after those chips.
 #[tactic(auto, unfolding(crate::specs::Turns::rows_of, crate::specs::Turns::registers_of, columns::specs::Columns::chips_of, columns::specs::Columns::beside, columns::specs::Columns::columns, registers::specs::Times::times, registers::specs::Register::shift_l2, registers::specs::Register::stage))]
-pub fn registers() -> &'static [u32; 776]
+fn registers() -> &'static [u32; 776]
     ensures { result.now ≡ registers_of 776 0 }
 {
     &tables::NEXT
 }
 
-// The next 128 chips of a register, in sixteen columns.
+// The entry of a register's byte g.
+#[inline(always)]
+fn entry(register: u32, g: u32) -> usize
+    requires register_in { register < 2 ^ 27 }
+    requires byte_in { g < 4 }
+    ensures is { result ≡ g * 256 + register / 2 ^ (8 * g) % 256 }
+    ensures within { result < 776 }
+{
+    (g * 256 + (register >> (8 * g)) % 256) as usize
+}
+
+// The next 128 chips of a register, in sixteen columns: those of its four bytes, added.
 #[inline(always)]
 fn turn(register: u32) -> u8x16
     requires { register < 2 ^ 27 }
     ensures { (j : ℕ) → j < 128 → chip_in result j ≡ chip_from register j }
 {
     let rows: &[u8] = rows();
-    let a = (register % 256) as usize;
-    let b = 256 + ((register >> 8) % 256) as usize;
-    let c = 512 + ((register >> 16) % 256) as usize;
-    let d = 768 + (register >> 24) as usize;
-    let low = columns::sixteen(rows, a * 16) ^ columns::sixteen(rows, b * 16);
-    let high = columns::sixteen(rows, c * 16) ^ columns::sixteen(rows, d * 16);
-    low ^ high
+    let a = columns::sixteen(rows, entry(register, 0) * 16);
+    let b = columns::sixteen(rows, entry(register, 1) * 16);
+    let c = columns::sixteen(rows, entry(register, 2) * 16);
+    let d = columns::sixteen(rows, entry(register, 3) * 16);
+    (a ^ b) ^ (c ^ d)
 }
 
 // The register after them.
@@ -49,14 +62,13 @@ fn turned(register: u32) -> u32
     ensures { result ≡ times shift_l2 128 register }
 {
     let registers = registers();
-    let a = (register % 256) as usize;
-    let b = 256 + ((register >> 8) % 256) as usize;
-    let c = 512 + ((register >> 16) % 256) as usize;
-    let d = 768 + (register >> 24) as usize;
-    (registers[a] ^ registers[b]) ^ (registers[c] ^ registers[d])
+    let low = registers[entry(register, 0)] ^ registers[entry(register, 1)];
+    let high = registers[entry(register, 2)] ^ registers[entry(register, 3)];
+    low ^ high
 }
 
-// Writes the next chips of a register over a slice.
+// Writes the next chips of a register over a slice: 128 a turn, and of the last turn as many as
+// are left.
 pub fn write(register: u32, out: &mut [u8])
     requires { register < 2 ^ 27 }
     ensures { out.new ≡ row (chip_from register) (length out.old) }
