@@ -1,5 +1,6 @@
-// P by place: the chips from any place of the week on, written from where the four generators stand there, with no register, no step and no delay line.
-// IS-GPS-200 3.3.2.2: X1 is X1A plus X1B, X2 is X2A plus X2B, and P of a PRN is X1 plus the X2 of as many chips before as its number says.
+// P by place: its chips from any place of the week on, with no register, no step and no delay line.
+// IS-GPS-200 3.3.2.2: X1 is X1A plus X1B, X2 is X2A plus X2B, and P of PRN i is X1 plus the X2 of i
+// chips before. So all that a place asks for is where each of the four generators stands.
 #![tactic(auto)]
 
 ghost use Rattle.std.specs.Prelude.{◌≡◌, ℕ, ◌+◌, ◌-◌, ◌%◌, ◌<◌, ◌≤◌, eqb, slice_index, length, map};
@@ -17,12 +18,12 @@ use week::{Course, Coursed};
 
 // ---- a generator
 
-// The chips of a generator from a place on: those of a table of columns, from a phase on, round the generator's cycle.
+// The chips of a generator from a place on: those of a table of columns from a phase on, round the
+// cycle, for as many places as are left to the next hold, or to the end of the present one.
 #[derive(Clone, Copy)]
 struct Source {
     columns: &'static [u8],
     phase: usize,
-    // For so many places: up to the next hold, or to the end of the present one.
     left: u64,
 }
 
@@ -30,7 +31,7 @@ static ZEROS: [u8; 4108] = [0; 4108];
 
 static ONES: [u8; 4108] = [255; 4108];
 
-// The columns of one chip over and over, as long as any cycle of the four.
+// The columns of the same chip over and over, in whatever cycle of the four.
 #[inline(always)]
 fn same(one: bool) -> &'static [u8]
     ensures { Same one result.now }
@@ -54,9 +55,10 @@ fn held(columns: &'static [u8], phase: u64, left: u64) -> Source
     }
 }
 
-// A generator at a place of its week: it runs through its period's cycles, is held at the last of their chips until the period ends, and from its stop on
-// is held until the week ends. "the X1B shift register is held in the final state .. of its 3749th cycle", X2A and X2B 37 chips longer, and all three at
-// the week's end.
+// A generator at a place of its week. In a period it runs through its cycles, and then it is held
+// at the last of their chips until the period ends: X1B in its 3,749th cycle until X1A's 3,750th is
+// finished, X2A and X2B until 37 chips later. In the last X1A cycle of the week it is held from its
+// stop on until the week ends. X1A itself is never held.
 #[inline(always)]
 fn standing(columns: &'static [u8], c: Course, place: u64) -> Source
     requires room { c.cycle + 15 ≤ length columns.now }
@@ -83,7 +85,8 @@ fn standing(columns: &'static [u8], c: Course, place: u64) -> Source
 
 // ---- the four
 
-// The place whose X2 chip a PRN adds at a place: as many chips before as its number says, round the week.
+// The place whose X2 chip a PRN adds at a place: as many chips before as its number says, round the
+// week.
 #[inline(always)]
 fn place_of_x2(prn: Prn, place: u64) -> u64
     requires { place < week_p }
@@ -92,7 +95,7 @@ fn place_of_x2(prn: Prn, place: u64) -> u64
     (place + (WEEK_P - u64::from(prn.number))) % WEEK_P
 }
 
-// The four generators, each from where it stands at the place that its chip is taken from.
+// The four generators, each at the place that its chip is taken from.
 #[derive(Clone, Copy)]
 struct Sources {
     x1a: Source,
@@ -101,7 +104,7 @@ struct Sources {
     x2b: Source,
 }
 
-// The four generators for a PRN at a place.
+// X1A and X1B at a place, X2A and X2B at the one that the PRN's delay leads to.
 #[inline(always)]
 fn sources_at(prn: Prn, place: u64) -> Sources
     requires { place < week_p }
@@ -150,7 +153,8 @@ impl Sources {
 
 // ---- P
 
-// Writes the chips of P of a PRN from a place on, round the week, over a slice: run by run, each up to where a generator is next held or let go.
+// Writes the chips of P of a PRN from a place on, round the week, over a slice: run by run, each up
+// to where one of the generators is next held or let go, a few times in 15 million chips.
 pub fn write(prn: Prn, place: u64, out: &mut [u8])
     requires { place < week_p }
     ensures { out.new ≡ map (standard 2 prn.number) (places_from week_p place (length out.old)) }
