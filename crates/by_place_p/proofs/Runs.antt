@@ -8,6 +8,7 @@ use Rattle.std.proofs.Common.{◌≡◌, ℕ, ◌+◌, ◌-◌, ◌%◌, ◌<◌
 use lib.Dec.{lit≤}
 use Rattle.registers.specs.Register.{shift_x1a, shift_x1b, shift_x2a, shift_x2b}
 use Rattle.starts.specs.Starts.{start_x1a, start_x1b, start_x2a, start_x2b}
+use Rattle.week.specs.declared.Course.{Course}
 use Rattle.week.specs.Standing.{standing_at}
 use Rattle.week.specs.Week.{course_x1a, course_x1b, course_x2a, course_x2b}
 use Rattle.standard.specs.Standard.{x1a, x1b, x2, code_p}
@@ -18,8 +19,9 @@ use Rattle.columns.specs.Columns.{chips_of, round, columns, Round, Sums, sum_chi
 use Rattle.columns.specs.declared.Four.{Four}
 use Rattle.columns.proofs.Rounds.{columns_round}
 use Rattle.by_place_p.specs.Feeds.{Feeds, chip_x1a, chip_x1b, chip_x2a, chip_x2b}
+use Rattle.by_place_p.specs.declared.Source.{Source}
 use Rattle.by_place_p.specs.declared.Sources.{Sources}
-use Rattle.by_place_p.proofs.Feeding.{mod_on}
+use Rattle.by_place_p.proofs.Feeding.{mod_on, told}
 
 -- ---- the four tables
 
@@ -35,6 +37,21 @@ module _ (t : List ℕ) where
 
   pub round_x2b : t ≡ columns (round 127 (chips_of shift_x2b 12 4093 start_x2b)) → 4108 ≤ length t → Round t 4093 chip_x2b
   round_x2b is room = subst (Round t 4093) (λ i q. sym (x2b_chip q) i) (columns_round shift_x2b 12 4093 start_x2b t is (lit≤ tt) room)
+
+-- ---- the four at a place, where calls told the course, the place and the table
+
+module _ (t : List ℕ) (s : Source) (k : Course) (p place : ℕ) (feeds : (x : ℕ → ℕ) → Round t k.cycle x → Feeds s k x p) (at : p ≡ place) where
+  pub fed_x1a : k ≡ course_x1a → t ≡ columns (round 127 (chips_of shift_x1a 12 4092 start_x1a)) → 4107 ≤ length t → Feeds s course_x1a chip_x1a place
+  fed_x1a course is room = told t s k course_x1a chip_x1a p place course at (round_x1a t is room) feeds
+
+  pub fed_x1b : k ≡ course_x1b → t ≡ columns (round 127 (chips_of shift_x1b 12 4093 start_x1b)) → 4108 ≤ length t → Feeds s course_x1b chip_x1b place
+  fed_x1b course is room = told t s k course_x1b chip_x1b p place course at (round_x1b t is room) feeds
+
+  pub fed_x2a : k ≡ course_x2a → t ≡ columns (round 127 (chips_of shift_x2a 12 4092 start_x2a)) → 4107 ≤ length t → Feeds s course_x2a chip_x2a place
+  fed_x2a course is room = told t s k course_x2a chip_x2a p place course at (round_x2a t is room) feeds
+
+  pub fed_x2b : k ≡ course_x2b → t ≡ columns (round 127 (chips_of shift_x2b 12 4093 start_x2b)) → 4108 ≤ length t → Feeds s course_x2b chip_x2b place
+  fed_x2b course is room = told t s k course_x2b chip_x2b p place course at (round_x2b t is room) feeds
 
 -- ---- a chip
 
