@@ -1,8 +1,8 @@
 -- A run of places, in each of which the four generators tell their chips.
---     round_x1a, round_x1b, round_x2a, round_x2b   what the tables tell, as the standards' chips
+--     fed_x1a, fed_x1b, fed_x2a, fed_x2b   sources of the four tables give the chips that the standards' registers give
 --     chip_at    the chip so many places on
 --     run_chip   it is the sum of the four generators' chips
---     run_is     and so what the sum of four sources writes are the chips of the run
+--     run_is     and so the sums of four sources are the chips of the run
 -- Assumes nothing.
 use Rattle.std.proofs.Common.{◌≡◌, ℕ, ◌+◌, ◌-◌, ◌%◌, ◌<◌, ◌≤◌, List, length, arith, refl, sym, ap, subst, ◌∙◌}
 use lib.Dec.{lit≤}
@@ -26,19 +26,19 @@ use Rattle.by_place_p.proofs.Feeding.{mod_on, told}
 -- ---- the four tables
 
 module _ (t : List ℕ) where
-  pub round_x1a : t ≡ columns (round 127 (chips_of shift_x1a 12 4092 start_x1a)) → 4107 ≤ length t → Round t 4092 chip_x1a
+  round_x1a : t ≡ columns (round 127 (chips_of shift_x1a 12 4092 start_x1a)) → 4107 ≤ length t → Round t 4092 chip_x1a
   round_x1a is room = subst (Round t 4092) (λ i q. sym (x1a_chip q) i) (columns_round shift_x1a 12 4092 start_x1a t is (lit≤ tt) room)
 
-  pub round_x1b : t ≡ columns (round 127 (chips_of shift_x1b 12 4093 start_x1b)) → 4108 ≤ length t → Round t 4093 chip_x1b
+  round_x1b : t ≡ columns (round 127 (chips_of shift_x1b 12 4093 start_x1b)) → 4108 ≤ length t → Round t 4093 chip_x1b
   round_x1b is room = subst (Round t 4093) (λ i q. sym (x1b_chip q) i) (columns_round shift_x1b 12 4093 start_x1b t is (lit≤ tt) room)
 
-  pub round_x2a : t ≡ columns (round 127 (chips_of shift_x2a 12 4092 start_x2a)) → 4107 ≤ length t → Round t 4092 chip_x2a
+  round_x2a : t ≡ columns (round 127 (chips_of shift_x2a 12 4092 start_x2a)) → 4107 ≤ length t → Round t 4092 chip_x2a
   round_x2a is room = subst (Round t 4092) (λ i q. sym (x2a_chip q) i) (columns_round shift_x2a 12 4092 start_x2a t is (lit≤ tt) room)
 
-  pub round_x2b : t ≡ columns (round 127 (chips_of shift_x2b 12 4093 start_x2b)) → 4108 ≤ length t → Round t 4093 chip_x2b
+  round_x2b : t ≡ columns (round 127 (chips_of shift_x2b 12 4093 start_x2b)) → 4108 ≤ length t → Round t 4093 chip_x2b
   round_x2b is room = subst (Round t 4093) (λ i q. sym (x2b_chip q) i) (columns_round shift_x2b 12 4093 start_x2b t is (lit≤ tt) room)
 
--- ---- the four at a place, where calls told the course, the place and the table
+-- ---- the four at a place: course, place and table are what calls have given
 
 module _ (t : List ℕ) (s : Source) (k : Course) (p place : ℕ) (feeds : (x : ℕ → ℕ) → Round t k.cycle x → Feeds s k x p) (at : p ≡ place) where
   pub fed_x1a : k ≡ course_x1a → t ≡ columns (round 127 (chips_of shift_x1a 12 4092 start_x1a)) → 4107 ≤ length t → Feeds s course_x1a chip_x1a place
