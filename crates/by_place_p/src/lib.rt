@@ -3,7 +3,7 @@
 // chips before. So all that a place asks for is where each of the four generators stands.
 #![tactic(auto)]
 
-ghost use Rattle.std.specs.Prelude.{◌≡◌, ℕ, ◌+◌, ◌-◌, ◌%◌, ◌<◌, ◌≤◌, eqb, slice_index, length, map};
+ghost use Rattle.std.specs.Prelude.{◌≡◌, ℕ, ◌+◌, ◌-◌, ◌%◌, ◌<◌, ◌≤◌, eqb, slice_index, length, map, min};
 ghost use Rattle.machine.specs.Signals.{week_p, places_from};
 ghost use Rattle.week.specs.Week.{course_x1a, course_x1b, course_x2a, course_x2b};
 ghost use Rattle.standard.specs.Standard.{standard};
@@ -104,7 +104,7 @@ struct Sources {
     x2b: Source,
 }
 
-// X1A and X1B at a place, X2A and X2B at the one that the PRN's delay leads to.
+// X1A and X1B at a place, X2A and X2B at the place that the PRN's delay leads back to.
 #[inline(always)]
 fn sources_at(prn: Prn, place: u64) -> Sources
     requires { place < week_p }
@@ -123,14 +123,10 @@ fn sources_at(prn: Prn, place: u64) -> Sources
 }
 
 impl Sources {
-    // The places that all four tell.
+    // For how many places all four go on as they do.
     #[inline(always)]
     fn left(&self) -> u64
-        ensures x1a { result ≤ self.now.x1a.left }
-        ensures x1b { result ≤ self.now.x1b.left }
-        ensures x2a { result ≤ self.now.x2a.left }
-        ensures x2b { result ≤ self.now.x2b.left }
-        ensures some { 0 < self.now.x1a.left → 0 < self.now.x1b.left → 0 < self.now.x2a.left → 0 < self.now.x2b.left → 0 < result }
+        ensures { result ≡ min (min self.now.x1a.left self.now.x1b.left) (min self.now.x2a.left self.now.x2b.left) }
     {
         let x1 = self.x1a.left.min(self.x1b.left);
         let x2 = self.x2a.left.min(self.x2b.left);
@@ -165,9 +161,14 @@ pub fn write(prn: Prn, place: u64, out: &mut [u8])
         let four = sources_at(prn, here);
         let rest = (out.len() - written) as u64;
         let n = four.left().min(rest) as usize;
-        let (a, b) = (four.x1a.columns, four.x1b.columns);
-        let (c, d) = (four.x2a.columns, four.x2b.columns);
-        columns::write_four(a, b, c, d, four.phases(), &mut out[written..written + n]);
+        columns::write_four(
+            four.x1a.columns,
+            four.x1b.columns,
+            four.x2a.columns,
+            four.x2b.columns,
+            four.phases(),
+            &mut out[written..written + n],
+        );
         written += n;
         here = (here + n as u64) % WEEK_P;
     }
