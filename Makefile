@@ -33,12 +33,15 @@ codes console:
 	@touch target/bin/$@
 	@echo 'program: target/bin/$@'
 
+# Has rt write machine code for every x86-64 processor. Without it, rt writes for those of x86-64-v2, which the first ones were not.
+everywhere := --cpu=x86-64
+
 # Proves the call for C and all below it, and writes it as an archive.
 lib:
 	$(need-rt)
 	@mkdir -p target
 	@echo 'proving gps_chips and what it rests on, some nine minutes the first time (target/lib.log)'
-	@{ (cd crates/gps_chips_c && rt lib) && mkdir -p $(dir $(archive)) && cp crates/gps_chips_c/out/libgps_chips_c.a $(archive); } >target/lib.log 2>&1 || { cat target/lib.log >&2; exit 1; }
+	@{ (cd crates/gps_chips_c && rt lib $(everywhere)) && mkdir -p $(dir $(archive)) && cp crates/gps_chips_c/out/libgps_chips_c.a $(archive); } >target/lib.log 2>&1 || { cat target/lib.log >&2; exit 1; }
 	@echo 'archive: $(archive)'
 	@echo 'header:  $(header)'
 	@echo 'link:    cc prog.c -Iinclude $(archive)'
