@@ -19,7 +19,7 @@ enum {
 };
 
 /* What is timed of each signal. */
-enum { SEEK, STEP, WINDOW_16, C_CALL_16, WINDOW_1000, C_CALL_1000, TIMED };
+enum { REFUSED, SEEK, STEP, WINDOW_16, C_CALL_16, WINDOW_1000, C_CALL_1000, TIMED };
 
 /* A channel of the engine, its place for the library's call, and the bytes that it fills, its own as a receiver's channel has them. */
 static struct channel {
@@ -116,6 +116,7 @@ static void c_call(struct channel *channel, size_t length)
 static void call(int what, struct channel *channel, uint64_t place)
 {
     switch (what) {
+    case REFUSED:     bench_seek(&channel->numbers, UINT64_MAX); break;
     case SEEK:        bench_seek(&channel->numbers, place); break;
     case STEP:        step(channel); break;
     case WINDOW_16:   window(channel, 16); break;
@@ -178,11 +179,12 @@ void channels_print(const double *plain_step_ns)
            GPS_CHIPS_PRN_MAX, CHANNELS - GPS_CHIPS_PRN_MAX);
     printf("gps_chips, P, %d chips, at places at random: %.1f ns per call, %.4f ns per chip, %.2f %% of a core in real time.\n",
            LONGEST, anywhere_ns, anywhere_ns / LONGEST, anywhere_ns / LONGEST * chips_per_second / 1e9 * 100);
-    printf("\nThe engine's calls on them, in ns per call: seek to places at random; step and window from there on, beside\n");
-    printf("gps_chips for the same chips. In steps: how many of plain C stepping take as long as the seek.\n\n");
-    printf("signal      seek  in steps      step  window 16  gps_chips 16  window %d  gps_chips %d\n", LONGEST, LONGEST);
+    printf("\nThe engine's calls on them, in ns per call, with what it takes to pass a channel in plain numbers, as for the seek\n");
+    printf("that is refused. Seek leads to places at random; in steps: how many of plain C stepping take as long. Step and\n");
+    printf("window go on from there, beside gps_chips for the same chips.\n\n");
+    printf("signal   refused      seek  in steps      step  window 16  gps_chips 16  window %d  gps_chips %d\n", LONGEST, LONGEST);
     for (int i = 0; i < SIGNALS; i++)
-        printf("%-6s %9.1f %9.0f %9.1f %10.1f %13.1f %12.1f %15.1f\n", code_name((uint64_t)i + 1), ns[i][SEEK],
-               ns[i][SEEK] / plain_step_ns[i], ns[i][STEP], ns[i][WINDOW_16], ns[i][C_CALL_16], ns[i][WINDOW_1000],
-               ns[i][C_CALL_1000]);
+        printf("%-6s %9.1f %9.1f %9.0f %9.1f %10.1f %13.1f %12.1f %15.1f\n", code_name((uint64_t)i + 1), ns[i][REFUSED],
+               ns[i][SEEK], ns[i][SEEK] / plain_step_ns[i], ns[i][STEP], ns[i][WINDOW_16], ns[i][C_CALL_16],
+               ns[i][WINDOW_1000], ns[i][C_CALL_1000]);
 }
