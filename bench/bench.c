@@ -1,7 +1,8 @@
 /*
- * How fast gps_chips() is, against plain C that makes the same chips. It compares
- * every window with the independent model first, then times, then prints a
- * table. A difference ends it with status 1.
+ * How fast gps_chips() is, against plain C that makes the same chips, and what the
+ * engine's calls on a channel take beside it. It compares every window with the
+ * independent model first, then times, then prints tables. A difference ends it
+ * with status 1.
  *
  *     bench TABLES
  *
