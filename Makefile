@@ -33,23 +33,32 @@ codes console:
 	@touch target/bin/$@
 	@echo 'program: target/bin/$@'
 
+# Has rt write machine code for every x86-64 processor. Without it, rt writes for those of x86-64-v2, which the first ones were not.
+everywhere := --cpu=x86-64
+
 # Proves the call for C and all below it, and writes it as an archive.
 lib:
 	$(need-rt)
 	@mkdir -p target
 	@echo 'proving gps_chips and what it rests on, some nine minutes the first time (target/lib.log)'
-	@{ (cd crates/gps_chips_c && rt lib) && mkdir -p $(dir $(archive)) && cp crates/gps_chips_c/out/libgps_chips_c.a $(archive); } >target/lib.log 2>&1 || { cat target/lib.log >&2; exit 1; }
+	@{ (cd crates/gps_chips_c && rt lib $(everywhere)) && mkdir -p $(dir $(archive)) && cp crates/gps_chips_c/out/libgps_chips_c.a $(archive); } >target/lib.log 2>&1 || { cat target/lib.log >&2; exit 1; }
 	@echo 'archive: $(archive)'
 	@echo 'header:  $(header)'
 	@echo 'link:    cc prog.c -Iinclude $(archive)'
 
-# Compares the archive, and plain C that makes the same chips, with the independent model, byte by byte, then times them, in some 20 seconds. Best with nothing
-# else running.
+# The engine's calls on a channel, as an archive that the bench alone is linked with.
+calls := target/bench/libbench_calls.a
+# Plain C is given its best: where its loops happen to lie it takes up to half as long again.
+aligned := -falign-functions=64 -falign-loops=64
+
+# Compares the archive, the engine's calls on a channel, and plain C that makes the same chips, with the independent model, byte by byte, then times them, in some
+# 25 seconds. Best with nothing else running.
 bench: lib
 	$(call need,$(firstword $(CC)),a C compiler ($(CC)))
 	@mkdir -p target/bench
-	@$(CC) -O3 -std=c99 -D_POSIX_C_SOURCE=199309L -Wall -Wextra -Werror -Iinclude -Itests/reference bench/*.c tests/reference/codes.c tests/reference/registers.c \
-		$(archive) -o target/bench/bench
+	@{ (cd crates/bench_calls && rt lib $(everywhere)) && cp crates/bench_calls/out/libbench_calls.a $(calls); } >target/bench.log 2>&1 || { cat target/bench.log >&2; exit 1; }
+	@$(CC) -O3 $(aligned) -std=c99 -D_POSIX_C_SOURCE=199309L -Wall -Wextra -Werror -Iinclude -Itests/reference bench/*.c tests/reference/codes.c \
+		tests/reference/registers.c $(archive) $(calls) -o target/bench/bench
 	@target/bench/bench tests/tables
 
 # Compares the archive and both programs with the independent model of tests/reference, in rounds of new cases, until it is stopped (Ctrl-C). Then it says what

@@ -1,7 +1,8 @@
 /*
- * How fast gps_chips() is, against plain C that makes the same chips. It compares
- * every window with the independent model first, then times, then prints a
- * table. A difference ends it with status 1.
+ * How fast gps_chips() is, against plain C that makes the same chips, and what the
+ * engine's calls on a channel take beside it. It compares every window with the
+ * independent model first, then times, then prints tables. A difference ends it
+ * with status 1.
  *
  *     bench TABLES
  *
@@ -10,14 +11,15 @@
 #include <inttypes.h>
 #include <stdio.h>
 #include <string.h>
-#include <time.h>
 
 #include "byte_tables.h"
+#include "channels.h"
 #include "code.h"
 #include "compare.h"
 #include "gps_chips.h"
 #include "registers.h"
 #include "stepping.h"
+#include "timing.h"
 
 #define COUNT_OF(array) (sizeof (array) / sizeof (array)[0])
 
@@ -38,9 +40,9 @@ enum {
 enum { WEEK_START, MID_WEEK, WEEK_END, STARTS };
 
 /* Calls at random places, by their lengths. */
-enum { CALL_0, CALL_1, CALL_16, CALLS };
+enum { CALL_0, CALL_1, CALL_16, CALL_1000, CALLS };
 
-static const size_t call_lengths[CALLS] = { 0, 1, 16 };
+static const size_t call_lengths[CALLS] = { 0, 1, 16, 1000 };
 static const size_t lengths[LENGTHS] = { 65536, 1000 };
 static const uint64_t compared_prns[] = { 1, TIMED_PRN, 19, 37 };
 
@@ -48,8 +50,7 @@ static struct byte_tables codes[SIGNALS]; /* of the PRN that is timed */
 static uint64_t random_places[SIGNALS][RANDOM_PLACES];
 static uint8_t buffer[GPS_CHIPS_LENGTH_MAX];
 
-/* A fixed row of numbers (xorshift), so that every run has the same places. */
-static uint64_t next_random(void)
+uint64_t next_random(void)
 {
     static uint64_t x = UINT64_C(88172645463325252);
 
@@ -172,30 +173,16 @@ static way *const ways[WAYS] = {
     [LIBRARY] = by_library, [STEPPING] = by_stepping, [TABLES] = by_tables, [MEMSET] = by_memset
 };
 
-static double now(void)
-{
-    struct timespec t;
-
-    clock_gettime(CLOCK_MONOTONIC, &t);
-    return (double)t.tv_sec * 1e9 + (double)t.tv_nsec;
-}
-
-/* Nanoseconds of a call, over so many. The compiler has to take the buffer as read after each. */
+/* Nanoseconds of a call, over so many. */
 static double sample(way *run, const struct window *window, long calls)
 {
     double start = now();
 
     for (long i = 0; i < calls; i++) {
         run(window);
-        __asm__ volatile("" : : "r"(buffer) : "memory");
+        as_if_read(buffer);
     }
     return (now() - start) / (double)calls;
-}
-
-static void keep_least(double *best, double came)
-{
-    if (*best == 0 || came < *best)
-        *best = came;
 }
 
 /* One round's samples of one number. */
@@ -244,7 +231,7 @@ static double pass(int signal, size_t length)
 
     for (int i = 0; i < RANDOM_PLACES; i++) {
         gps_chips((uint64_t)signal + 1, TIMED_PRN, random_places[signal][at], buffer, length);
-        __asm__ volatile("" : : "r"(buffer) : "memory");
+        as_if_read(buffer);
         at = (at + stride) % RANDOM_PLACES;
     }
     return (now() - start) / RANDOM_PLACES;
@@ -291,33 +278,25 @@ static void print_windows(int length)
     }
 }
 
-/* A call of length 0 shows what a seek costs, unless it is far cheaper than one of length 1: then it makes none. */
-static int seek_call(void)
-{
-    for (int signal = 0; signal < SIGNALS; signal++)
-        if (call_ns[signal][CALL_0] < call_ns[signal][CALL_1] / 2)
-            return CALL_1;
-    return CALL_0;
-}
-
 static void print_calls(void)
 {
-    const int seek = seek_call();
-
-    printf("\nCalls of gps_chips at %d random places, in ns per call.\n", RANDOM_PLACES);
-    if (seek == CALL_1)
-        printf("A call of length 0 makes no seek, by its time.\n");
-    printf("The seek is the call of length %zu. In steps: how many of plain C stepping take as long, by the\n",
-           call_lengths[seek]);
-    printf("mid-week windows of %zu chips.\n\n", lengths[0]);
-    printf("signal  length 0  length 1  length 16  seek, steps  length 16 / seek\n");
+    printf("\nCalls of gps_chips at %d random places, in ns per call.\n\n", RANDOM_PLACES);
+    printf("signal  length 0  length 1  length 16  length 1000\n");
     for (int signal = 0; signal < SIGNALS; signal++) {
         const double *ns = call_ns[signal];
-        double step = window_ns[0][signal][MID_WEEK][STEPPING] / (double)lengths[0];
 
-        printf("%-6s %9.1f %9.1f %10.1f %12.0f %17.2f\n", code_name((uint64_t)signal + 1), ns[CALL_0], ns[CALL_1],
-               ns[CALL_16], ns[seek] / step, ns[CALL_16] / ns[seek]);
+        printf("%-6s %9.1f %9.1f %10.1f %12.1f\n", code_name((uint64_t)signal + 1), ns[CALL_0], ns[CALL_1], ns[CALL_16],
+               ns[CALL_1000]);
     }
+}
+
+static void print_channels(void)
+{
+    double step_ns[SIGNALS];
+
+    for (int signal = 0; signal < SIGNALS; signal++)
+        step_ns[signal] = window_ns[0][signal][MID_WEEK][STEPPING] / (double)lengths[0];
+    channels_print(step_ns);
 }
 
 /* ------------------------------------------------------------------------ main */
@@ -332,6 +311,7 @@ static void prepare(const char *directory)
         for (int k = 0; k < RANDOM_PLACES; k++)
             random_places[i][k] = next_random() % code_week(code.signal);
     }
+    channels_prepare();
 }
 
 int main(int argc, char **argv)
@@ -341,16 +321,18 @@ int main(int argc, char **argv)
         return 2;
     }
     prepare(argv[1]);
-    if (!compare_all(argv[1]))
+    if (!compare_all(argv[1]) || !channels_compare())
         return 1;
     for (int round = 0; round < ROUNDS; round++) {
         for (int i = 0; i < LENGTHS; i++)
             time_windows(i);
         time_calls();
+        channels_time();
     }
     print_head();
     for (int i = 0; i < LENGTHS; i++)
         print_windows(i);
     print_calls();
+    print_channels();
     return 0;
 }

@@ -19,4 +19,11 @@ int compare_window(uint64_t place, size_t length);
 /* Compares the library alone. */
 int compare_library(uint64_t place, size_t length);
 
+/*
+ * Compares the library and the engine's calls, of any signal and PRN: so many
+ * windows one after another, on a channel that is opened and brought to the place
+ * for them, and a step behind each.
+ */
+int compare_channel(uint64_t signal, uint64_t prn, uint64_t place, size_t length, int windows);
+
 #endif

@@ -24,14 +24,15 @@
  * L2 CM and L2 CL are two signals here, each with its own places. On the air
  * their chips take turns: CM's place n is sent first, then CL's place n.
  *
- * Linking. The archive has this one function and needs no other but memset,
- * which every C library has. Where it was built, and where it is installed:
+ * Linking. The archive has this one function and needs no other, not even C's
+ * library. Where it was built, and where it is installed:
  *
  *     cc prog.c -Iinclude target/staticlib/libgps_chips.a
  *     cc prog.c $(pkg-config --cflags --libs gps_chips)
  *
- * It is x86-64 code with the System V calling convention. The header is C99
- * and can be included from C++.
+ * It runs on every x86-64 processor: no instruction of it is newer than the
+ * first of them. The system is Linux, or another one with ELF archives and the
+ * System V calling convention. The header is C99 and can be included from C++.
  *
  * Example: the first ten C/A chips of PRN 1. It prints 1100100000.
  *

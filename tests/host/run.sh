@@ -26,16 +26,58 @@ sanitized=(-g -fsanitize=address,undefined -fno-sanitize-recover=all)
 
 # ---------------------------------------------------------------- archive
 
-# The header promises one function that needs nothing but memset and keeps no state.
+code_and_constants=131072 # bytes that the archive may have of them
+
+# The header promises one function that needs no other and keeps no state.
 check_archive() {
-    local undefined globals data
+    local undefined globals sizes text data
     undefined=$(nm -u "$archive" | awk 'NF > 1 && $(NF - 1) ~ /^[Uvw]$/ { print $NF }' | sort -u)
-    [ -z "$undefined" ] || [ "$undefined" = memset ] || fail "the archive has undefined symbols other than memset:" $undefined
+    [ -z "$undefined" ] || fail "the archive has undefined symbols:" $undefined
     globals=$(nm -g --defined-only "$archive" | awk 'NF == 3 { print $2, $3 }')
     [ "$globals" = "T gps_chips" ] || fail "expected one global symbol, T gps_chips, got:" $globals
-    data=$(size "$archive" | awk 'NR > 1 { sum += $2 + $3 } END { print sum + 0 }')
+    sizes=$(size "$archive" | awk 'NR > 1 { text += $1; data += $2 + $3 } END { print text + 0, data + 0 }')
+    text=${sizes% *} data=${sizes#* }
     [ "$data" = 0 ] || fail "expected no writable data in the archive, got $data bytes"
-    echo "archive: one global symbol, gps_chips; undefined: ${undefined:-none}; no writable data"
+    [ "$text" -gt 0 ] && [ "$text" -le $code_and_constants ] \
+        || fail "expected at most $code_and_constants bytes of code and constants in the archive, got $text"
+    echo "archive: one global symbol, gps_chips; none undefined; $text bytes of code and constants, $code_and_constants allowed; no writable data"
+}
+
+# ----------------------------------------------------------- machine code
+
+# runs_everywhere OBJECT: whether all of its machine code is for every x86-64 processor. It is read back by the assembler, told of a processor with nothing
+# above the first of them; the assembler's tables say which instruction that one lacks. For it each jump goes to itself, and padding has one prefix at most.
+# What it says of the rest is left in machine-code.log.
+runs_everywhere() {
+    objdump -d --no-show-raw-insn --no-addresses "$1" \
+        | sed -n 's/^\(\t[a-z]* *\)<.*/\1./; s/ *# .*//; s/^\t\(data16 \)*/\t/p' >"$out/machine-code.s"
+    [ -s "$out/machine-code.s" ] && as -march=generic64 -o /dev/null "$out/machine-code.s" >"$out/machine-code.log" 2>&1
+}
+
+# A jump, a call, SSE2 and padding.
+everywhere='pxor %xmm0, %xmm0; lea table(%rip), %rax; jmp *%rax; nopw 0x0(%rax,%rax); call table; jne table; cmove %rax, %rbx; table: ret'
+
+# One of each addition.
+above=('popcnt %eax, %eax' 'pextrd $1, %xmm0, %eax' 'pblendw $3, %xmm1, %xmm0' 'pextrw $1, %xmm0, (%rax)' 'pshufb %xmm1, %xmm0' 'haddps %xmm1, %xmm0'
+    'crc32b %al, %ebx' 'cmpxchg16b (%rax)' 'movbe (%rax), %ebx' 'lzcnt %eax, %eax' 'tzcnt %eax, %eax' 'andn %eax, %ebx, %ecx' 'shlx %eax, %ebx, %ecx'
+    'vpxor %xmm1, %xmm1, %xmm0' 'vpaddb %ymm1, %ymm1, %ymm0' 'vpaddb %zmm1, %zmm1, %zmm0' 'pclmulqdq $0, %xmm1, %xmm0' 'aesenc %xmm1, %xmm0')
+
+# assembled TEXT: as an object file, whatever the processor.
+assembled() {
+    printf '%s\n' "$1" | as -o "$out/machine-code.o" - || fail "can't assemble $1"
+}
+
+check_machine_code() {
+    local instruction
+    assembled "$everywhere"
+    runs_everywhere "$out/machine-code.o" || fail "machine code of every x86-64 processor is refused: $(cat "$out/machine-code.log")"
+    for instruction in "${above[@]}"; do
+        assembled "$everywhere; $instruction"
+        ! runs_everywhere "$out/machine-code.o" && [ "$(grep -c 'Error: ' "$out/machine-code.log")" = 1 ] \
+            || fail "not found in machine code: $instruction"
+    done
+    runs_everywhere "$archive" || fail "the archive has what not every x86-64 processor can run: $(sed -n 's/.*Error: //p' "$out/machine-code.log" | sort -u)"
+    echo "machine code: $(wc -l <"$out/machine-code.s") instructions, each of every x86-64 processor; ${#above[@]} others were planted and found"
 }
 
 # ----------------------------------------------------------------- header
@@ -276,7 +318,12 @@ check_host_program() {
 if command -v nm >/dev/null && command -v size >/dev/null; then
     check_archive
 else
-    echo "archive: symbols not checked, nm or size isn't installed"
+    echo "archive: symbols and size not checked, nm or size isn't installed"
+fi
+if command -v objdump >/dev/null && command -v as >/dev/null; then
+    check_machine_code
+else
+    echo "machine code: not searched, objdump or as isn't installed"
 fi
 check_header
 check_library

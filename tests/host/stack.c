@@ -1,7 +1,7 @@
 /*
- * Measures the stack that gps_chips() takes, against the bound in its header:
- * it is called on a stack of our own, filled with a known byte, and then we
- * look how far down that byte was overwritten.
+ * Measures the stack that gps_chips() takes, against a bound well below the one
+ * in its header: it is called on a stack of our own, filled with a known byte,
+ * and then we look how far down that byte was overwritten.
  */
 #define _XOPEN_SOURCE 700
 
@@ -12,7 +12,11 @@
 
 #include "gps_chips.h"
 
-enum { STACK = 1 << 20, UNTOUCHED = 0xA5 };
+enum {
+    STACK = 1 << 20,
+    UNTOUCHED = 0xA5,
+    ALLOWED = 8192 /* bytes; the header promises GPS_CHIPS_STACK_MAX, so that another compiler may take more */
+};
 
 static uint8_t stack[STACK];
 static uint8_t chips[GPS_CHIPS_LENGTH_MAX];
@@ -56,7 +60,7 @@ int main(void)
 
     for (call.signal = 1; call.signal <= 6; call.signal++) {
         uint64_t week = weeks[call.signal - 1];
-        const uint64_t places[] = { 0, 36, 767249, 15344999, week / 3, week - 4092, week - 1, week };
+        const uint64_t places[] = { 0, 36, 767249, 15344999, 15345000, week / 3, week - 4092, week - 900, week - 1, week };
 
         call.prn = GPS_CHIPS_PRN_MAX;
         for (size_t p = 0; p < sizeof places / sizeof places[0]; p++) {
@@ -70,6 +74,6 @@ int main(void)
             }
         }
     }
-    printf("at most %zu bytes taken, %d promised\n", most, GPS_CHIPS_STACK_MAX);
-    return most > GPS_CHIPS_STACK_MAX;
+    printf("at most %zu bytes taken, %d allowed here, %d promised\n", most, ALLOWED, GPS_CHIPS_STACK_MAX);
+    return most > ALLOWED;
 }
