@@ -1,2 +1,0 @@
-pub mod ByDigits
-pub mod Turns

@@ -1,2 +1,0 @@
--- For the contracts of inner functions alone.
-pub mod Periods

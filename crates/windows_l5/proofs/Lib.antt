@@ -1,4 +1,0 @@
--- Read in this order.
-pub mod Blocks
-pub mod AlongL5
-pub mod Advances

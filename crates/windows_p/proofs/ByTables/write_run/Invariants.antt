@@ -1,9 +1,0 @@
--- `windows_p::ByTables::write_run` meets its contract.
--- Assumes nothing.
-use Rattle.std.proofs.Common.{◌≡◌, ◌*◌, take}
-use Rattle.digits.specs.Digits.{row}
-use Rattle.windows_p.specs.Runs.{line_along, chip_along}
-use Rattle.windows_p.proofs.ByTables.write_run.Given as goal
-
-abbrev pub invariant-loop-word : goal.invariant-loop-word
-invariant-loop-word l = (take (l.word * 64) l.out ≡ row (chip_along l.ch) (l.word * 64)) × (l.line ≡ line_along l.ch (l.word * 64))

@@ -1,3 +1,0 @@
--- Read in this order.
-pub mod Blocks
-pub mod AlongP
