@@ -98,18 +98,6 @@ impl Cycle {
             Mode::Held(chips) => held_with(g, chips - 1),
         }
     }
-
-    // The same, where its mode on arrival is a hold's. Apart, and seldom taken: `step` has a test that nearly each step passes.
-    #[cold]
-    #[inline(never)]
-    fn step_by_hold(self, hold: Hold, g: Generator, shifted: u32, week_end: bool) -> Generator
-        requires stands { Stands self g }
-        requires last_in { self.last < 2 ^ 20 }
-        ensures { result ≡ step_in g.mode shifted self.start self.last self.highest (arrival_of hold week_end (g.phase + 1) g.cycles) g }
-    {
-        let arrival = hold.arrival(week_end, g.phase + 1, g.cycles);
-        self.step_held(g, shifted, arrival)
-    }
 }
 
 // ---- holds
@@ -183,26 +171,51 @@ pub trait Code {
     ghost shift_is: { kind.shift ≡ Self.Stages.shift };
 }
 
+// The cycle that a generator stands in, which begins from `start`.
+fn cycle_of<C: Code>(g: Generator, start: u32) -> Cycle
+    ensures cycle_is { result ≡ record { start = start; last = C.kind.last g.cycles; highest = C.kind.highest } }
+    ensures last_in { result.last < 2 ^ 20 }
+{
+    Cycle {
+        start,
+        last: C::last(g.cycles),
+        highest: C::highest(),
+    }
+}
+
+// The step of a generator wherever it stands. Apart, and seldom taken: `step` has a test that nearly each step passes.
+#[cold]
+#[inline(never)]
+fn step_anywhere<C: Code>(g: Generator, start: u32, week_end: bool) -> Generator
+    requires { RangedKind (record C.kind { start = start }) g }
+    ensures { result ≡ step_generator (record C.kind { start = start }) week_end g }
+{
+    let cycle = cycle_of::<C>(g, start);
+    let shifted = C::Stages::shift(g.register);
+    let arrival = match C::hold() {
+        None => Mode::Running,
+        Some(hold) => hold.arrival(week_end, g.phase + 1, g.cycles),
+    };
+    cycle.step_held(g, shifted, arrival)
+}
+
 // The step of a generator, which begins a cycle from `start`.
 pub fn step<C: Code>(g: Generator, start: u32, week_end: bool) -> Generator
     requires { RangedKind (record C.kind { start = start }) g }
     ensures { result ≡ step_generator (record C.kind { start = start }) week_end g }
 {
+    let cycle = cycle_of::<C>(g, start);
     let shifted = C::Stages::shift(g.register);
-    let cycle = Cycle {
-        start,
-        last: C::last(g.cycles),
-        highest: C::highest(),
-    };
     match C::hold() {
         None => cycle.step_running(g, shifted, Mode::Running),
         Some(hold) => {
-            // it runs, and neither its hold nor the cycle's end is at hand
+            // it runs, and neither its hold nor its cycle's end is at hand
             let clear = (g.phase + 1 < hold.phase) & (g.phase < cycle.last);
             if clear && g.mode == Mode::Running {
-                return move_on(g, shifted, Mode::Running);
+                move_on(g, shifted, Mode::Running)
+            } else {
+                step_anywhere::<C>(g, start, week_end)
             }
-            cycle.step_by_hold(hold, g, shifted, week_end)
         }
     }
 }
