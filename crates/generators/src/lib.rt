@@ -171,52 +171,52 @@ pub trait Code {
     ghost shift_is: { kind.shift ≡ Self.Stages.shift };
 }
 
-// The cycle that a generator stands in, which begins from `start`.
-fn cycle_of<C: Code>(g: Generator, start: u32) -> Cycle
-    ensures cycle_is { result ≡ record { start = start; last = C.kind.last g.cycles; highest = C.kind.highest } }
-    ensures last_in { result.last < 2 ^ 20 }
-{
-    Cycle {
-        start,
-        last: C::last(g.cycles),
-        highest: C::highest(),
-    }
-}
-
-// The step of a generator wherever it stands. Apart, and seldom taken: `step` has a test that nearly each step passes.
-#[cold]
-#[inline(never)]
-fn step_anywhere<C: Code>(g: Generator, start: u32, week_end: bool) -> Generator
-    requires { RangedKind (record C.kind { start = start }) g }
-    ensures { result ≡ step_generator (record C.kind { start = start }) week_end g }
-{
-    let cycle = cycle_of::<C>(g, start);
-    let shifted = C::Stages::shift(g.register);
-    let arrival = match C::hold() {
-        None => Mode::Running,
-        Some(hold) => hold.arrival(week_end, g.phase + 1, g.cycles),
-    };
-    cycle.step_held(g, shifted, arrival)
-}
-
 // The step of a generator, which begins a cycle from `start`.
 pub fn step<C: Code>(g: Generator, start: u32, week_end: bool) -> Generator
     requires { RangedKind (record C.kind { start = start }) g }
     ensures { result ≡ step_generator (record C.kind { start = start }) week_end g }
 {
-    let cycle = cycle_of::<C>(g, start);
     let shifted = C::Stages::shift(g.register);
+    let cycle = Cycle {
+        start,
+        last: C::last(g.cycles),
+        highest: C::highest(),
+    };
     match C::hold() {
         None => cycle.step_running(g, shifted, Mode::Running),
         Some(hold) => {
-            // it runs, and neither its hold nor its cycle's end is at hand
-            let clear = (g.phase + 1 < hold.phase) & (g.phase < cycle.last);
-            if clear && g.mode == Mode::Running {
-                move_on(g, shifted, Mode::Running)
-            } else {
-                step_anywhere::<C>(g, start, week_end)
-            }
+            let arrival = hold.arrival(week_end, g.phase + 1, g.cycles);
+            cycle.step_held(g, shifted, arrival)
         }
+    }
+}
+
+// The same step, apart from the loop that takes it, since it is seldom taken there.
+#[cold]
+#[inline(never)]
+fn step_apart<C: Code>(g: Generator, start: u32, week_end: bool) -> Generator
+    requires { RangedKind (record C.kind { start = start }) g }
+    ensures { result ≡ step_generator (record C.kind { start = start }) week_end g }
+{
+    step::<C>(g, start, week_end)
+}
+
+// The same step, for a loop over steps of a generator that is held: where it runs, and neither its hold nor its cycle's end is at hand, as at nearly each
+// chip, it is shifted and no more.
+#[inline(always)]
+pub fn step_in_a_run<C: Code>(g: Generator, start: u32, week_end: bool) -> Generator
+    requires { RangedKind (record C.kind { start = start }) g }
+    ensures { result ≡ step_generator (record C.kind { start = start }) week_end g }
+{
+    let last = C::last(g.cycles);
+    let hold_at = match C::hold() {
+        None => last,
+        Some(hold) => hold.phase,
+    };
+    if (g.phase < last) & (g.phase + 1 < hold_at) && g.mode == Mode::Running {
+        move_on(g, C::Stages::shift(g.register), Mode::Running)
+    } else {
+        step_apart::<C>(g, start, week_end)
     }
 }
 

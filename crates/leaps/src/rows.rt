@@ -58,7 +58,7 @@ impl Counted<u32> {
         requires as_the_rows { AsTheRows table.width table.entries.now table.by_digits.now }
         ensures { result ≡ row_applied (row_at table.entry.width table.entry.entries.now k) self }
     {
-        let value = table.applied(k, self.value);
+        let value = applied(table, k, self.value);
         let made = self.count.made + 1;
         Counted {
             value,
@@ -67,10 +67,26 @@ impl Counted<u32> {
     }
 }
 
+// Row k applied to a register: by digits of the register where the table has its rows so, else by the row's numbers.
+#[inline(always)]
+fn applied(table: Table<'_>, k: u32, register: u32) -> u32
+    requires row_there { k < rows_of table.width table.entries.now }
+    requires as_the_rows { AsTheRows table.width table.entries.now table.by_digits.now }
+    ensures { result ≡ combine (row_at table.entry.width table.entry.entries.now k) register }
+{
+    if table.by_digits.is_empty() {
+        let at = k as usize * table.width;
+        return combined(&table.entries[at..at + table.width], register);
+    }
+    let long = (table.width + 3) / 4 * 16;
+    let at = k as usize * long;
+    combined_by_digits(&table.by_digits[at..at + long], register)
+}
+
 // The numbers of a row that stand where the register has a 1, added bit by bit modulo 2. Each is multiplied by the register's digit: a branch on it would be
 // guessed wrong every other time.
 #[inline(always)]
-pub(crate) fn combined(row: &[u32], register: u32) -> u32
+fn combined(row: &[u32], register: u32) -> u32
     ensures { result ≡ combine row.now register }
 {
     let mut sum: u32 = 0;
@@ -84,7 +100,7 @@ pub(crate) fn combined(row: &[u32], register: u32) -> u32
 
 // Of a row by digits, sixteen numbers a digit, those that stand at the register's digits to base 16, added bit by bit modulo 2.
 #[inline(always)]
-pub(crate) fn combined_by_digits(row: &[u16], register: u32) -> u32
+fn combined_by_digits(row: &[u16], register: u32) -> u32
     ensures { result ≡ at_digits (length row.now / 16) row.now register }
 {
     let mut sum: u32 = 0;
