@@ -1,9 +1,11 @@
 // One row of a table applied to a register, and the count of rows applied.
 
-ghost use Rattle.std.specs.Prelude.{◌≡◌};
+ghost use Rattle.std.specs.Prelude.{◌≡◌, ◌<◌, ◌/◌, length};
 ghost use Rattle.registers.specs.Row.{combine};
-ghost use Rattle.leaps.specs.Leaps.{Room, row_applied};
+ghost use Rattle.leaps.specs.Leaps.{Room, rows_of, row_at, row_applied};
+ghost use Rattle.leaps.specs.Digits.{AsTheRows, at_digits};
 
+use crate::Table;
 use std::marker::Model;
 
 // How many rows were applied. The number is private, so that outside this file a count can be begun at none, carried on and read, and nothing else: it
@@ -48,12 +50,15 @@ pub struct Counted<T> {
 }
 
 impl Counted<u32> {
-    // Applies one row of a table to a register, and is the one place where the count rises.
-    pub(crate) fn apply_row(self, row: &[u32]) -> Counted<u32>
-        requires { Room self }
-        ensures { result ≡ row_applied row.now self }
+    // Applies row k of a table to a register, however the row is kept, and is the one place where the count rises.
+    #[inline(always)]
+    pub(crate) fn apply_row(self, table: Table<'_>, k: u32) -> Counted<u32>
+        requires room { Room self }
+        requires row_there { k < rows_of table.width table.entries.now }
+        requires as_the_rows { AsTheRows table.width table.entries.now table.by_digits.now }
+        ensures { result ≡ row_applied (row_at table.entry.width table.entry.entries.now k) self }
     {
-        let value = combined(row, self.value);
+        let value = applied(table, k, self.value);
         let made = self.count.made + 1;
         Counted {
             value,
@@ -62,8 +67,25 @@ impl Counted<u32> {
     }
 }
 
+// Row k applied to a register: by digits of the register where the table has its rows so, else by the row's numbers.
+#[inline(always)]
+fn applied(table: Table<'_>, k: u32, register: u32) -> u32
+    requires row_there { k < rows_of table.width table.entries.now }
+    requires as_the_rows { AsTheRows table.width table.entries.now table.by_digits.now }
+    ensures { result ≡ combine (row_at table.entry.width table.entry.entries.now k) register }
+{
+    if table.by_digits.is_empty() {
+        let at = k as usize * table.width;
+        return combined(&table.entries[at..at + table.width], register);
+    }
+    let long = (table.width + 3) / 4 * 16;
+    let at = k as usize * long;
+    combined_by_digits(&table.by_digits[at..at + long], register)
+}
+
 // The numbers of a row that stand where the register has a 1, added bit by bit modulo 2. Each is multiplied by the register's digit: a branch on it would be
 // guessed wrong every other time.
+#[inline(always)]
 fn combined(row: &[u32], register: u32) -> u32
     ensures { result ≡ combine row.now register }
 {
@@ -72,6 +94,20 @@ fn combined(row: &[u32], register: u32) -> u32
     for entry in row {
         sum = sum ^ (rest % 2) * *entry;
         rest = rest / 2;
+    }
+    sum
+}
+
+// Of a row by digits, sixteen numbers a digit, those that stand at the register's digits to base 16, added bit by bit modulo 2.
+#[inline(always)]
+fn combined_by_digits(row: &[u16], register: u32) -> u32
+    ensures { result ≡ at_digits (length row.now / 16) row.now register }
+{
+    let mut sum: u32 = 0;
+    let mut rest = register;
+    for digit in row.chunks_exact(16) {
+        sum = sum ^ u32::from(digit[(rest % 16) as usize]);
+        rest = rest / 16;
     }
     sum
 }

@@ -64,8 +64,8 @@ impl Fill {
         ensures { result ≡ stepped week_end self }
     {
         let delay = steps::next_line(self.third.register, self.fourth.register, self.delay);
-        let third = generators::step::<X2A>(self.third, X2A::START, week_end);
-        let fourth = generators::step::<X2B>(self.fourth, X2B::START, week_end);
+        let third = generators::step_in_a_run::<X2A>(self.third, X2A::START, week_end);
+        let fourth = generators::step_in_a_run::<X2B>(self.fourth, X2B::START, week_end);
         let taken = self.steps.taken + 1;
         Fill {
             third,

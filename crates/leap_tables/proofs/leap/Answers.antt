@@ -3,8 +3,8 @@
 use Rattle.leaps.proofs.LawOfLeaps.{by_table}
 use Rattle.leap_tables.proofs.leap.Goals as goal
 
-pub leap_to-requires : goal.leap_to-requires
-leap_to-requires g c =
+pub leap_to-requires-clause-covers : goal.leap_to-requires-clause-covers
+leap_to-requires-clause-covers g c =
     let t = c.table.ensures.tested in
     let w = c.requires in
     record { few = t.few; phase_in = rw t.rows_are w.phase_in; count_in = w.count_in }
