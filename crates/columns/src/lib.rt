@@ -114,7 +114,8 @@ fn on(phase: usize, cycle: usize) -> usize
     ensures { result ≡ (phase + 128) % cycle }
 {
     let next = phase + 128;
-    if next < cycle { next } else { next - cycle }
+    // below the cycle the difference wraps to a number far above it, and the lesser is the phase itself
+    next.min(next.wrapping_sub(cycle))
 }
 
 // The phases of P's four generators, X1A, X1B, X2A and X2B in order: chips since the start of a
