@@ -1,4 +1,5 @@
-// Chips by place: those of any signal and PRN from a place of the week on, written over a slice, by the signal's own crate. No channel is needed.
+// Chips by place: those of any signal and PRN from a place of the week on, written over a slice, by
+// the signal's own crate. No channel is needed.
 #![tactic(auto)]
 
 ghost use Rattle.std.specs.Prelude.{◌≡◌, ◌<◌, length, map};
@@ -12,8 +13,9 @@ use signals::{Prn, Signal};
 // The most chips that one call writes.
 pub const MOST_CHIPS: u64 = 65_536;
 
-// Writes the chips of a signal and a PRN from a place on, round the week, over a slice: those of the standards, and so those that the machine gives there. The
-// place has to lie below the signal's W. An arm for each signal: the compiler names each `match` that lacks one.
+// Writes the chips of a signal and a PRN from a place on, round the week, over a slice: those of
+// the standards, and so those that the machine gives there. The place has to lie below the signal's
+// W. An arm for each signal: the compiler names each `match` that lacks one.
 pub fn write_chips(signal: Signal, prn: Prn, place: u64, out: &mut [u8])
     requires { place < week_of (number_of signal) }
     ensures by_the_standards { out.new ≡ map (standard (number_of signal) prn.number) (places_from (week_of (number_of signal)) place (length out.old)) }

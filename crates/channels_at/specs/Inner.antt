@@ -12,7 +12,8 @@ use Rattle.week.specs.declared.Standing.{Standing}
 abbrev pub at_standing : ℕ → Standing → Generator
 at_standing register at = record { register = register; phase = at.phase; cycles = at.cycles; mode = at.mode }
 
--- a table that begins `from` chips before phase 0 has, at each phase of a cycle, the register of a kind as the first chips from there on
+-- a table that begins `from` chips before phase 0 has, at each phase of a cycle, the register of a
+-- kind as the first chips from there on
 abbrev pub Tabled : Kind → ℕ → List ℕ → ℕ → ℕ → Type 0
 Tabled k cycle table from width =
     (q : ℕ) → q < cycle → word_in table (from + q) / 2 ^ (64 - width) ≡ times k.shift q k.start

@@ -1,5 +1,5 @@
-// The channel of a signal and PRN at any place of the week: where each generator stands by division, its register from the table of its chips. No
-// leap is made and no step.
+// The channel of a signal and PRN at any place of the week: where each generator stands by
+// division, its register from the table of its chips. No leap is made and no step.
 #![tactic(auto)]
 
 ghost use Rattle.std.specs.Prelude.{◌≡◌, ℕ, ◌+◌, ◌/◌, ◌<◌, ◌≤◌, ◌^◌, length};
@@ -40,7 +40,8 @@ fn with_register(at: Standing, register: u32) -> Generator
     }
 }
 
-// A generator at a place of its week, its register read from a table of its chips that begins `from` chips before phase 0.
+// A generator at a place of its week, its register read from a table of its chips that begins
+// `from` chips before phase 0.
 #[inline(always)]
 fn tabled<C: Coursed>(table: &[u64], from: usize, width: u32, place: u64) -> Generator
     requires place_in_week { place < C.course.week }
@@ -122,13 +123,8 @@ fn at_cm(prn: Prn, place: u64) -> Channel
     ensures { result ≡ channel_at (signal_cm prn.number) courses_cm 3 prn.number place place }
 {
     let cm = own::<Cm>(starts::start_cm(prn), place);
-    plain_at(
-        Signal::L2Cm,
-        prn,
-        place,
-        cm,
-        generators::fresh_generator(0, 0),
-    )
+    let none = generators::fresh_generator(0, 0);
+    plain_at(Signal::L2Cm, prn, place, cm, none)
 }
 
 // L2 CL, whose generator is the second.
@@ -137,13 +133,8 @@ fn at_cl(prn: Prn, place: u64) -> Channel
     ensures { result ≡ channel_at (signal_cl prn.number) courses_cl 4 prn.number place place }
 {
     let cl = own::<Cl>(starts::start_cl(prn), place);
-    plain_at(
-        Signal::L2Cl,
-        prn,
-        place,
-        generators::fresh_generator(0, 0),
-        cl,
-    )
+    let none = generators::fresh_generator(0, 0);
+    plain_at(Signal::L2Cl, prn, place, none, cl)
 }
 
 // I5 and Q5, given how far XB is advanced from all ones, with which its table begins.
@@ -157,8 +148,9 @@ fn at_l5(signal: Signal, prn: Prn, advance: u32, place: u64) -> Channel
     plain_at(signal, prn, place, xa, xb)
 }
 
-// The channel of a signal and a PRN at a place of the week, which has to lie below the signal's W: the one that so many steps lead to from where it was
-// opened. An arm for each signal: the compiler names each `match` that lacks one.
+// The channel of a signal and a PRN at a place of the week, which has to lie below the signal's W:
+// the one that so many steps lead to from where it was opened. An arm for each signal: the compiler
+// names each `match` that lacks one.
 pub fn at(signal: Signal, prn: Prn, place: u64) -> Channel
     requires { place < week_of (number_of signal) }
     ensures { result ≡ advance place (opened (number_of signal) prn.number) }

@@ -21,7 +21,8 @@ pub(crate) struct Next {
     pub chips: u64,
 }
 
-// Of a generator that runs, those of its table up to the cycle's last phase; of one that is held, the same chip as long as it is held.
+// Of a generator that runs, those of its table up to the cycle's last phase; of one that is held,
+// the same chip as long as it is held.
 #[inline(always)]
 fn next_of(at: Standing, last: u32, table: &[u64]) -> Next
     requires phase_in_cycle { at.phase ≤ last }
@@ -53,8 +54,9 @@ fn line_after(line: u64, x2: u64, n: u32) -> u64
     (kept + taken) % machine::LINE_LIMIT
 }
 
-// The delay line at a place: behind ones, the X2 chips of the 37 places before, or of all before it where there are fewer. As many chips at once as there are
-// up to the next end of a cycle or of a hold.
+// The delay line at a place: behind ones, the X2 chips of the 37 places before, or of all before it
+// where there are fewer. As many chips at once as there are up to the next end of a cycle or of a
+// hold.
 pub(crate) fn line_at(place: u64) -> u64
     requires { place < week_p }
     ensures { result ≡ line_at (signal_p 1) courses_p place }

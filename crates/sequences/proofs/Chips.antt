@@ -1,8 +1,6 @@
 -- The law of sequences.
 --     word_tells      the digits of the word that is read at q are the chips of the registers from q on
 --     register_is     its highest digits, as many as the register has stages, are the register of q
---     register_read   the same, of a table that is the sequence
---     inner_stage     a stage other than the last gives its chip so many shifts earlier
 -- Assumes nothing.
 use Prim.Native.Nat.{ℕ, zero, suc, ◌+◌, ◌-◌, ◌*◌, ◌/◌, ◌%◌, ◌^◌, ◌<◌, ◌≤◌}
 use mathlib.Core.Path.{◌≡◌, sym, ap, ap₂, ◌∙◌, subst}
@@ -13,7 +11,6 @@ use lib.Pow.{high, split, field, shr_lt, shr-shr}
 use Rattle.registers.specs.Times.{times}
 use Rattle.registers.specs.Register.{stage, sum_of, shift}
 use Rattle.registers.proofs.Repeat.{times-add}
-use Rattle.registers.proofs.Cut.{digit_below}
 use Rattle.registers.proofs.Shifts.{sum_of-lt, shift-lt, tapped, times_keeps}
 use Rattle.sequences.specs.Sequences.{given, sequence, word_in, Tells}
 use Rattle.sequences.proofs.Words.{given_behind, given_first, given_digit, word_is}
@@ -76,40 +73,3 @@ register_is s taps n start q le some h room =
     ∙ given_first f s s (64 - s) r
     ∙ first_chips_lem s taps s 0 r (omega arith) (times_keeps (tapped s taps some) q start h)
     ∙ div-one r
-
-pub register_read : (s : ℕ) (taps : List ℕ) (n start : ℕ) (seq : List ℕ) → seq ≡ sequence (shift s taps) s n start → s ≤ 64 → 0 < s → start < 2 ^ s
-    → (q : ℕ) → q / 64 + 1 < n → word_in seq (0 + q) / 2 ^ (64 - s) ≡ times (shift s taps) q start
-register_read s taps n start seq is le some h q room =
-    ap₂ (λ (l : List ℕ) (k : ℕ). word_in l k / 2 ^ (64 - s)) is (zero-add q) ∙ register_is s taps n start q le some h room
-
--- ---- the other stages
-
-up_one : (s : ℕ) (taps : List ℕ) (k r : ℕ) → 0 < k → k < s → stage (k + 1) (shift s taps r) ≡ stage k r
-unfolding stage shift
-up_one s taps zero r h l = absurd (omega (arith, h))
-up_one s taps (suc k) r h l =
-    let b = sum_of taps r in
-    let down : suc k + 1 - 1 ≡ 1 + k = omega arith in
-    let same : suc k - 1 ≡ k = omega arith in
-    ap (λ (y : ℕ). (r % 2 ^ (s - 1) * 2 + b) / 2 ^ y % 2) down
-    ∙ ap (λ (x : ℕ). x % 2) (sym (shr-shr (r % 2 ^ (s - 1) * 2 + b) 1 k))
-    ∙ ap (λ (x : ℕ). x / 2 ^ k % 2) (half (r % 2 ^ (s - 1)) b (sum_of-lt taps r))
-    ∙ digit_below r (s - 1) k (omega (arith, l))
-    ∙ ap (λ (x : ℕ). r / 2 ^ x % 2) (sym same)
-  where
-    half : (x b : ℕ) → b < 2 → (x * 2 + b) / 2 ≡ x
-    half x b h = omega arith
-
-up : (s : ℕ) (taps : List ℕ) (n k r : ℕ) → 0 < k → k + n ≤ s → stage (k + n) (times (shift s taps) n r) ≡ stage k r
-unfolding times
-up s taps zero k r h l = ap (λ (x : ℕ). stage x r) (omega arith)
-up s taps (suc n) k r h l =
-    let f = shift s taps in
-    let on : k + suc n ≡ (k + 1) + n = omega arith in
-    ap (λ (x : ℕ). stage x (times f n (f r))) on
-    ∙ up s taps n (k + 1) (f r) (omega arith) (omega (arith, l))
-    ∙ up_one s taps k r h (omega (arith, l))
-
-pub inner_stage : (s : ℕ) (taps : List ℕ) (k r : ℕ) → 0 < k → k ≤ s → stage s (times (shift s taps) (s - k) r) ≡ stage k r
-inner_stage s taps k r h l =
-    ap (λ (x : ℕ). stage x (times (shift s taps) (s - k) r)) (omega (arith, l)) ∙ up s taps (s - k) k r h (omega (arith, l))

@@ -22,25 +22,25 @@ pub trait Sequence<const WORDS: usize>: Register {
         ensures { result.now ≡ sequence Self.shift Self.width WORDS from };
 }
 
-// Two cycles of 1,023 chips, for G1 comes round without being started anew, and what a word reaches beyond them.
-impl Sequence<34> for G1 {
+// A cycle of 1,023 chips, and what a word from its last phase has beyond it.
+impl Sequence<17> for G1 {
     ghost from = { start_g1 };
 
-    fn sequence() -> &'static [u64; 34] {
+    fn sequence() -> &'static [u64; 17] {
         &tables::G1
     }
 }
 
 // As many as G1's.
-impl Sequence<34> for G2 {
+impl Sequence<17> for G2 {
     ghost from = { start_g2 };
 
-    fn sequence() -> &'static [u64; 34] {
+    fn sequence() -> &'static [u64; 17] {
         &tables::G2
     }
 }
 
-// A cycle of 4,092, and what a word from its last phase has beyond it.
+// A cycle of 4,092, and on.
 impl Sequence<65> for X1A {
     ghost from = { start_x1a };
 

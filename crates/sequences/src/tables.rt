@@ -1,7 +1,7 @@
 // The sequences, 64 chips to a word, the first chip as its highest digit. `rt` computes each from its register and compares.
 
-// G1: two cycles of 1,023, and on.
-pub const G1: [u64; 34] = [
+// G1: a cycle of 1,023, and on.
+pub const G1: [u64; 17] = [
     0xffc7_13b2_bbd4_7a54,
     0x17fa_abd0_e919_6b3d,
     0x633f_2a99_94fa_708d,
@@ -19,27 +19,10 @@ pub const G1: [u64; 34] = [
     0xf0a9_0b26_0890_2009,
     0x269a_f98f_91df_8701,
     0xff8e_2765_77a8_f4a8,
-    0x2ff5_57a1_d232_d67a,
-    0xc67e_5533_29f4_e11b,
-    0x229b_dd5c_ceee_753a,
-    0x0f6e_1894_b344_5a5d,
-    0x3160_525f_78c6_ec3c,
-    0x9cb1_0dfc_e352_8425,
-    0xbeb8_b90f_b545_ece7,
-    0xc1c9_5979_7056_cc35,
-    0xba2b_f473_728d_0324,
-    0x4136_9e6a_c2ed_184f,
-    0xee3c_0ed8_a264_1a4f,
-    0x7c55_a140_5b79_e23f,
-    0x63ad_4336_0c03_6d75,
-    0xe152_164c_1120_4012,
-    0x4d35_f31f_23bf_0e03,
-    0xff1c_4eca_ef51_e950,
-    0x5fea_af43_a465_acf5,
 ];
 
 // G2.
-pub const G2: [u64; 34] = [
+pub const G2: [u64; 17] = [
     0xffcb_4af5_07d5_6829,
     0xdc86_8cfb_da79_47b1,
     0x2f7e_92d9_06a2_1455,
@@ -57,23 +40,6 @@ pub const G2: [u64; 34] = [
     0x8c1d_bb58_5f31_e7f0,
     0x3c45_b9b6_a7c9_a40d,
     0xff96_95ea_0faa_d053,
-    0xb90d_19f7_b4f2_8f62,
-    0x5efd_25b2_0d44_28ab,
-    0xfaf0_da24_98ae_2701,
-    0x2aa3_6329_8159_93f3,
-    0xa5c1_3dd4_a4eb_9eb7,
-    0x8d6a_c724_7ecf_0619,
-    0xaa6b_ed87_1de6_8740,
-    0x3998_4846_2032_23ab,
-    0xa72f_c52c_e716_5d64,
-    0xa136_6f47_0a91_4082,
-    0x2676_56df_42d7_60b0,
-    0x05dd_f1f0_87fb_87a6,
-    0x58b9_50c6_e8bc_8d37,
-    0x183b_76b0_be63_cfe0,
-    0x788b_736d_4f93_481b,
-    0xff2d_2bd4_1f55_a0a7,
-    0x721a_33ef_69e5_1ec4,
 ];
 
 // X1A: a cycle of 4,092, and on.

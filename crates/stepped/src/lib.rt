@@ -1,5 +1,7 @@
-// Windows step by step: the chips of so many steps of a channel in range, written over a slice, and the channel so many steps on. What a PRN decides
-// is looked up once a window and not once a chip, and stands in the value of its family. So channels are written that are not the machine's at their place.
+// Windows step by step: the chips of so many steps of a channel in range, written over a slice, and
+// the channel so many steps on. What a PRN decides is looked up once a window and not once a chip,
+// and stands in the value of its family. So channels are written that are not the machine's at
+// their place.
 #![tactic(auto)]
 
 ghost use Rattle.machine.specs.Ranged.{Ranged};
@@ -22,7 +24,8 @@ fn write<F: Family>(family: F, ch: Channel, out: &mut [u8]) -> Channel
     write_here(family, ch, out)
 }
 
-// The same, inlined: where a caller drops the channel after it, what only that channel needs isn't computed, a tenth of the time of C/A and L2.
+// The same, inlined: where a caller drops the channel after it, what only that channel needs isn't
+// computed, a tenth of the time of C/A and L2.
 #[inline(always)]
 fn write_here<F: Family>(family: F, ch: Channel, out: &mut [u8]) -> Channel
     requires of { Of (F.signal family) ch }
@@ -37,9 +40,10 @@ fn write_here<F: Family>(family: F, ch: Channel, out: &mut [u8]) -> Channel
     here
 }
 
-// Writes the chips of a channel in range, of any signal, over a slice, and gives the channel after them.
-// That it is in range is a clause: an `InRange` would be made of the channel that a seek gives, only to be taken apart here.
-// An arm for each signal: the compiler names each `match` that lacks one. P's and L5's loops are slower set in here.
+// Writes the chips of a channel in range, of any signal, over a slice, and gives the channel after
+// them. That it is in range is a clause: an `InRange` would be made of the channel that a seek
+// gives, only to be taken apart here. An arm for each signal: the compiler names each `match` that
+// lacks one. P's and L5's loops are slower set in here.
 #[inline(always)]
 pub fn write_chips(ch: Channel, out: &mut [u8]) -> Channel
     requires { Ranged ch }

@@ -15,5 +15,5 @@ returns c =
     let a = c.args in
     c.plain_at.ensures
     ∙ plain_is week_ca g1 g2 course_g course_g _ 1 a.prn.number a.place c.requires _ _
-    (c.tabled-g1.ensures g1 (read 10 taps_g1 34 start_g1 1023 _ c.sequence.ensures (lit< tt) (lit≤ tt) (lit< tt) (lit< tt)))
-    (c.tabled-g2.ensures g2 (read 10 taps_g2 34 start_g2 1023 _ c.sequence-2.ensures (lit< tt) (lit≤ tt) (lit< tt) (lit< tt)))
+    (c.tabled-g1.ensures g1 (read 10 taps_g1 17 start_g1 1023 _ c.sequence.ensures (lit< tt) (lit≤ tt) (lit< tt) (lit< tt)))
+    (c.tabled-g2.ensures g2 (read 10 taps_g2 17 start_g2 1023 _ c.sequence-2.ensures (lit< tt) (lit≤ tt) (lit< tt) (lit< tt)))

@@ -16,4 +16,4 @@ returns c =
     let a = c.args in
     c.plain_at.ensures
     ∙ plain_is week_l2 none (cl (start_cl a.prn.number)) (idle week_l2) course_cl _ 4 a.prn.number a.place c.requires _ _
-    (c.fresh_generator.ensures ∙ lacking_at week_l2 a.place c.requires) (rw c.start_cl.ensures at c.own-cl.ensures)
+    (c.fresh_generator-none.ensures ∙ lacking_at week_l2 a.place c.requires) (rw c.start_cl.ensures at c.own-cl.ensures)

@@ -16,4 +16,4 @@ returns c =
     let a = c.args in
     c.plain_at.ensures
     ∙ plain_is week_l2 (cm (start_cm a.prn.number)) none course_cm (idle week_l2) _ 3 a.prn.number a.place c.requires _ _
-    (rw c.start_cm.ensures at c.own-cm.ensures) (c.fresh_generator.ensures ∙ lacking_at week_l2 a.place c.requires)
+    (rw c.start_cm.ensures at c.own-cm.ensures) (c.fresh_generator-none.ensures ∙ lacking_at week_l2 a.place c.requires)
