@@ -203,20 +203,22 @@ fn step_apart<C: Code>(g: Generator, start: u32, week_end: bool) -> Generator
 
 // The same step, for a loop over steps of a generator that is held: where it runs, and neither its hold nor its cycle's end is at hand, as at nearly each
 // chip, it is shifted and no more.
-#[inline(always)]
 pub fn step_in_a_run<C: Code>(g: Generator, start: u32, week_end: bool) -> Generator
     requires { RangedKind (record C.kind { start = start }) g }
     ensures { result ≡ step_generator (record C.kind { start = start }) week_end g }
 {
     let last = C::last(g.cycles);
-    let hold_at = match C::hold() {
-        None => last,
-        Some(hold) => hold.phase,
-    };
-    if (g.phase < last) & (g.phase + 1 < hold_at) && g.mode == Mode::Running {
-        move_on(g, C::Stages::shift(g.register), Mode::Running)
-    } else {
-        step_apart::<C>(g, start, week_end)
+    let shifted = C::Stages::shift(g.register);
+    match C::hold() {
+        None => step::<C>(g, start, week_end),
+        Some(hold) => {
+            let clear = (g.phase < last) & (g.phase + 1 < hold.phase);
+            if clear && g.mode == Mode::Running {
+                move_on(g, shifted, Mode::Running)
+            } else {
+                step_apart::<C>(g, start, week_end)
+            }
+        }
     }
 }
 
