@@ -1,6 +1,6 @@
 // The rows of the leap tables of eight registers by digits of the register to base 16: for each
-// digit, the lowest first, a line of what the row makes of its sixteen values. The proof computes
-// each whole table anew from the one in `tables.rt`. L2 has none: its rows are applied themselves.
+// digit, the lowest first, what the row makes of its sixteen values. The proof computes each whole
+// table anew from the one in `tables.rt`. L2 has none: its rows are applied themselves.
 
 // G1: ten rows of three digits.
 pub const G1: [u16; 480] = [
