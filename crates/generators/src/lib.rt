@@ -201,8 +201,8 @@ fn step_apart<C: Code>(g: Generator, start: u32, week_end: bool) -> Generator
     step::<C>(g, start, week_end)
 }
 
-// The same step, for a loop over steps of a generator that is held: where it runs, and neither its hold nor its cycle's end is at hand, as at nearly each
-// chip, it is shifted and no more.
+// The same step, for a loop over steps of a generator that may be held: where it runs, and neither
+// its hold nor its cycle's end is at hand, as at nearly each chip, it is shifted and no more.
 pub fn step_in_a_run<C: Code>(g: Generator, start: u32, week_end: bool) -> Generator
     requires { RangedKind (record C.kind { start = start }) g }
     ensures { result ≡ step_generator (record C.kind { start = start }) week_end g }

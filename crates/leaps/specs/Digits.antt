@@ -1,5 +1,6 @@
--- A row by digits of the register to base 16: for each digit, the lowest first, what the row makes of its sixteen values. The numbers that stand at a
--- register's digits, added bit by bit modulo 2, are then what the row makes of the register.
+-- A row by digits of the register to base 16: for each digit, the lowest first, what the row makes
+-- of its sixteen values. The numbers that stand at a register's digits, added bit by bit modulo 2,
+-- are then what the row makes of the register.
 -- Assumes nothing.
 use Rattle.std.specs.Prelude.{ℕ, zero, suc, ◌+◌, ◌/◌, ◌%◌, ◌≤◌, ◌<◌, ◌≡◌, List, [], ◌∷◌, ◌++◌, length, get_or, take, drop}
 use Rattle.std.specs.Int.Bits.{bit_xor}

@@ -50,7 +50,8 @@ pub struct Counted<T> {
 }
 
 impl Counted<u32> {
-    // Applies row k of a table to a register, however the row is kept, and is the one place where the count rises.
+    // Applies row k of a table to a register, however the row is kept, and is the one place where
+    // the count rises.
     #[inline(always)]
     pub(crate) fn apply_row(self, table: Table<'_>, k: u32) -> Counted<u32>
         requires room { Room self }
@@ -67,7 +68,8 @@ impl Counted<u32> {
     }
 }
 
-// Row k applied to a register: by digits of the register where the table has its rows so, else by the row's numbers.
+// Row k applied to a register: by digits of the register where the table has its rows so, else by
+// the row's numbers.
 #[inline(always)]
 fn applied(table: Table<'_>, k: u32, register: u32) -> u32
     requires row_there { k < rows_of table.width table.entries.now }
@@ -98,7 +100,8 @@ fn combined(row: &[u32], register: u32) -> u32
     sum
 }
 
-// Of a row by digits, sixteen numbers a digit, those that stand at the register's digits to base 16, added bit by bit modulo 2.
+// Of a row by digits, sixteen numbers a digit, those that stand at the register's digits to base
+// 16, added bit by bit modulo 2.
 #[inline(always)]
 fn combined_by_digits(row: &[u16], register: u32) -> u32
     ensures { result ≡ at_digits (length row.now / 16) row.now register }
