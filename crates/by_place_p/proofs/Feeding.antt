@@ -3,7 +3,7 @@
 --     mod_on        so many places on, in the same period
 --     running       a source of a generator that runs gives its chips
 --     holding       and one of a generator that is held gives the chip at which it is held
---     phase_stopped, still_held   where it is held: to the week's end, and at the end of a period
+--     still_held    where it is held at the end of a period
 --     told          the same, of a course and a place that calls have given
 -- Assumes nothing.
 use Rattle.std.proofs.Common.{◌≡◌, ℕ, zero, suc, ◌+◌, ◌*◌, ◌/◌, ◌%◌, ◌^◌, ◌<◌, ◌≤◌, true, false, List, get_or, arith, refl, sym, ap, subst, ◌∙◌}
@@ -11,11 +11,10 @@ use Rattle.std.specs.Prelude.{replicate, cond, eqb}
 use Rattle.std.proofs.lemmas.Simd.{length-replicate, get_or-replicate}
 use Rattle.std.proofs.Math.Nat.{add-mod, mod-eq_of_lt, mod-lt, zero-div}
 use Rattle.std.proofs.lemmas.Nat.{mod-mul-add, div-add-mod'}
-use borrow.Author.Tests.{lt-ltb, le-ltb}
 use Rattle.registers.proofs.Below.{equal_at}
 use Rattle.week.specs.declared.Course.{Course}
-use Rattle.week.specs.Standing.{in_period, standing_at}
-use Rattle.standard.proofs.Phases.{phase_runs}
+use Rattle.week.specs.Standing.{standing_at}
+use Rattle.standard.proofs.Phases.{phase_runs, phase_held}
 use Rattle.columns.specs.Columns.{Round}
 use Rattle.by_place_p.specs.Feeds.{Plan, Feeds, Same}
 use Rattle.by_place_p.specs.declared.Source.{Source}
@@ -110,15 +109,6 @@ module _ (c : Course) (p : Plan c) (t : ℕ) (s : Source) (some : 0 < s.left) (x
       first n = omega arith
 
 -- ---- where it is held
-
-module _ (c : Course) (w : ℕ) where
-  pub phase_held : w < c.stop → c.runs ≤ w % c.period → (standing_at c w).phase ≡ c.runs % c.cycle
-  unfolding standing_at in_period
-  phase_held h i = rw (lt-ltb w c.stop h, le-ltb (w % c.period) c.runs i)
-
-  pub phase_stopped : c.stop ≤ w → (standing_at c w).phase ≡ c.stop % c.period % c.cycle
-  unfolding standing_at in_period
-  phase_stopped h = rw (le-ltb w c.stop h)
 
 pub still_held : (c : Course) (t left : ℕ) → c.runs ≤ t % c.period → t % c.period + left ≤ c.period → t + left ≤ c.stop
     → (j : ℕ) → j < left → (standing_at c (t + j)).phase ≡ c.runs % c.cycle

@@ -18,11 +18,11 @@ module _ (c : Course) (w : ℕ) where
   unfolding standing_at in_period
   phase_runs h i = rw (lt-ltb w c.stop h, lt-ltb (w % c.period) c.runs i)
 
-  phase_held : w < c.stop → c.runs ≤ w % c.period → (standing_at c w).phase ≡ c.runs % c.cycle
+  pub phase_held : w < c.stop → c.runs ≤ w % c.period → (standing_at c w).phase ≡ c.runs % c.cycle
   unfolding standing_at in_period
   phase_held h i = rw (lt-ltb w c.stop h, le-ltb (w % c.period) c.runs i)
 
-  phase_stopped : c.stop ≤ w → (standing_at c w).phase ≡ c.stop % c.period % c.cycle
+  pub phase_stopped : c.stop ≤ w → (standing_at c w).phase ≡ c.stop % c.period % c.cycle
   unfolding standing_at in_period
   phase_stopped h = rw (le-ltb w c.stop h)
 

@@ -2,7 +2,8 @@
 -- Assumes nothing.
 use Rattle.std.proofs.Common.{◌+◌, ◌%◌, arith, refl}
 use Rattle.std.proofs.Math.Nat.{mod-lt}
-use Rattle.by_place_p.proofs.Feeding.{running, holding, still_held, phase_stopped}
+use Rattle.standard.proofs.Phases.{phase_stopped}
+use Rattle.by_place_p.proofs.Feeding.{running, holding, still_held}
 use Rattle.by_place_p.proofs.standing.Goals as goal
 
 pub returns-then-n-c : goal.returns-then-n-c
