@@ -9,7 +9,7 @@ use Rattle.channels_at.proofs.Channels.{lacking_at, plain_is}
 use Rattle.channels_at.proofs.at_cl.Goals as goal
 
 pub own-cl-requires-clause-start_in : goal.own-cl-requires-clause-start_in
-own-cl-requires-clause-start_in c = rw c.start_cl.ensures (start_cl_in c.args.prn.number)
+own-cl-requires-clause-start_in c = rw c.start_cl.ensures (start_cl_in _)
 
 pub returns : goal.returns
 returns c =

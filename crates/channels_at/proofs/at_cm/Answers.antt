@@ -9,7 +9,7 @@ use Rattle.channels_at.proofs.Channels.{lacking_at, plain_is}
 use Rattle.channels_at.proofs.at_cm.Goals as goal
 
 pub own-cm-requires-clause-start_in : goal.own-cm-requires-clause-start_in
-own-cm-requires-clause-start_in c = rw c.start_cm.ensures (start_cm_in c.args.prn.number)
+own-cm-requires-clause-start_in c = rw c.start_cm.ensures (start_cm_in _)
 
 pub returns : goal.returns
 returns c =
