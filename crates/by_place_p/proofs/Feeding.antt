@@ -1,7 +1,10 @@
--- What a source tells.
+-- What a source gives.
 --     zeros, ones   columns of the same chip
---     running       a generator that runs
---     holding       one that is held
+--     mod_on        so many places on, in the same period
+--     running       a source of a generator that runs gives its chips
+--     holding       and one of a generator that is held gives the chip at which it is held
+--     phase_stopped, still_held   where it is held: to the week's end, and at the end of a period
+--     told          the same, of a course and a place that calls have given
 -- Assumes nothing.
 use Rattle.std.proofs.Common.{◌≡◌, ℕ, zero, suc, ◌+◌, ◌*◌, ◌/◌, ◌%◌, ◌^◌, ◌<◌, ◌≤◌, true, false, List, get_or, arith, refl, sym, ap, subst, ◌∙◌}
 use Rattle.std.specs.Prelude.{replicate, cond, eqb}
@@ -19,6 +22,7 @@ use Rattle.by_place_p.specs.declared.Source.{Source}
 
 -- ---- columns of the same chip
 
+-- no digit of 0 is 1
 zero_digit : (k : ℕ) → 0 / 2 ^ k % 2 ≡ 0
 zero_digit k = ap (λ (x : ℕ). x % 2) (zero-div (2 ^ k))
 
@@ -38,6 +42,7 @@ ones cycle h =
 
 -- ---- a generator
 
+-- a chip that is asked whether it is 1
 digit_back : (b : ℕ) → b < 2 → cond (eqb b 1) 1 0 ≡ b
 digit_back zero h = refl
 digit_back (suc zero) h = refl
@@ -49,6 +54,7 @@ mod_on t j p h =
     let parts : t + j ≡ t / p * p + (t % p + j) = omega (arith, div-add-mod' t p) in
     ap (λ x. x % p) parts ∙ mod-mul-add (t / p) p (t % p + j) h
 
+-- round a cycle, once more or not
 mod_then : (n j c : ℕ) → 0 < c → (n % c + j) % c ≡ (n + j) % c
 mod_then n j c some =
     add-mod (n % c) j c
@@ -56,13 +62,13 @@ mod_then n j c some =
     ∙ sym (add-mod n j c)
 
 module _ (c : Course) (p : Plan c) (t : ℕ) (s : Source) (some : 0 < s.left) (x : ℕ → ℕ) where
+  -- from its phase on, to the hold or the week's end
   pub running : Round s.columns.now c.cycle x → s.phase ≡ t % c.period % c.cycle → t < c.stop → t % c.period + s.left ≤ c.runs → t + s.left ≤ c.stop → Feeds s c x t
   running r phase before runs stops =
-      let positive : 0 < c.cycle = omega (arith, p.long) in
       record {
         some = some;
         in_week = omega (arith, stops, p.stop_in);
-        in_cycle = rw phase (mod-lt (t % c.period) positive);
+        in_cycle = rw phase (mod-lt (t % c.period) p.some);
         room = r.room;
         tells = (
           x,
@@ -71,13 +77,13 @@ module _ (c : Course) (p : Plan c) (t : ℕ) (s : Source) (some : 0 < s.left) (x
               let later : (t + j) % c.period ≡ t % c.period + j = mod_on t j c.period (omega (arith, runs, h, p.runs_in)) in
               ap x
               (ap (λ n. (n + j) % c.cycle) phase
-              ∙ mod_then (t % c.period) j c.cycle positive
+              ∙ mod_then (t % c.period) j c.cycle p.some
               ∙ ap (λ n. n % c.cycle) (sym later)
               ∙ sym (phase_runs c (t + j) (omega (arith, stops, h)) (rw later (omega (arith, runs, h))))),
         );
       }
 
-  -- held at a phase
+  -- held at a phase, whose chip is the lowest digit of that column
   pub holding : (columns : List ℕ) → Round columns c.cycle x → (phase : ℕ) → phase < c.cycle → s.phase ≡ 0 → t + s.left ≤ c.week
       → Same (eqb (get_or columns phase 0 % 2) 1) s.columns.now → ((j : ℕ) → j < s.left → (standing_at c (t + j)).phase ≡ phase) → Feeds s c x t
   holding columns r phase in_cycle at_first in_week same stays =
@@ -86,7 +92,7 @@ module _ (c : Course) (p : Plan c) (t : ℕ) (s : Source) (some : 0 < s.left) (x
       record {
         some = some;
         in_week = in_week;
-        in_cycle = omega (arith, at_first, p.long);
+        in_cycle = omega (arith, at_first, p.some);
         room = (same c.cycle p.not_long).room;
         tells = (
           λ q. cond (eqb bit 1) 1 0,
@@ -120,7 +126,7 @@ still_held c t left held in_period in_week j h =
     let later : (t + j) % c.period ≡ t % c.period + j = mod_on t j c.period (omega (arith, in_period, h)) in
     phase_held c (t + j) (omega (arith, in_week, h)) (rw later (omega (arith, held)))
 
--- ---- where a call told the course and the place
+-- ---- what calls have given
 
 pub told : (t : List ℕ) (s : Source) (k c : Course) (x : ℕ → ℕ) (place at : ℕ) → k ≡ c → place ≡ at → Round t c.cycle x
     → ((y : ℕ → ℕ) → Round t k.cycle y → Feeds s k y place) → Feeds s c x at

@@ -1,40 +1,34 @@
 -- A run of places, in each of which the four generators tell their chips.
---     round_x1a, round_x1b, round_x2a, round_x2b   what the tables tell, as the standards' chips
+--     fed        a source that a table feeds gives the chips of the table's register
 --     chip_at    the chip so many places on
 --     run_chip   it is the sum of the four generators' chips
---     run_is     and so what the sum of four sources writes are the chips of the run
+--     run_is     and so the sums of four sources are the chips of the run
 -- Assumes nothing.
 use Rattle.std.proofs.Common.{◌≡◌, ℕ, ◌+◌, ◌-◌, ◌%◌, ◌<◌, ◌≤◌, List, length, arith, refl, sym, ap, subst, ◌∙◌}
-use lib.Dec.{lit≤}
-use Rattle.registers.specs.Register.{shift_x1a, shift_x1b, shift_x2a, shift_x2b}
-use Rattle.starts.specs.Starts.{start_x1a, start_x1b, start_x2a, start_x2b}
+use Rattle.registers.specs.Times.{times}
+use Rattle.registers.specs.Register.{stage}
+use Rattle.week.specs.declared.Course.{Course}
 use Rattle.week.specs.Standing.{standing_at}
 use Rattle.week.specs.Week.{course_x1a, course_x1b, course_x2a, course_x2b}
 use Rattle.standard.specs.Standard.{x1a, x1b, x2, code_p}
 use Rattle.standard.proofs.Phases.{phase_runs, x1b_phase, x2a_phase, x2b_phase}
-use Rattle.standard.proofs.SameRegisters.{x1a_chip, x1b_chip, x2a_chip, x2b_chip}
 use Rattle.columns.specs.Rows.{row}
 use Rattle.columns.specs.Columns.{chips_of, round, columns, Round, Sums, sum_chip}
 use Rattle.columns.specs.declared.Four.{Four}
 use Rattle.columns.proofs.Rounds.{columns_round}
 use Rattle.by_place_p.specs.Feeds.{Feeds, chip_x1a, chip_x1b, chip_x2a, chip_x2b}
+use Rattle.by_place_p.specs.declared.Source.{Source}
 use Rattle.by_place_p.specs.declared.Sources.{Sources}
-use Rattle.by_place_p.proofs.Feeding.{mod_on}
+use Rattle.by_place_p.proofs.Feeding.{mod_on, told}
 
--- ---- the four tables
+-- ---- a generator at a place: its source, course, place and table are what calls have given
 
-module _ (t : List ℕ) where
-  pub round_x1a : t ≡ columns (round 127 (chips_of shift_x1a 12 4092 start_x1a)) → 4107 ≤ length t → Round t 4092 chip_x1a
-  round_x1a is room = subst (Round t 4092) (λ i q. sym (x1a_chip q) i) (columns_round shift_x1a 12 4092 start_x1a t is (lit≤ tt) room)
-
-  pub round_x1b : t ≡ columns (round 127 (chips_of shift_x1b 12 4093 start_x1b)) → 4108 ≤ length t → Round t 4093 chip_x1b
-  round_x1b is room = subst (Round t 4093) (λ i q. sym (x1b_chip q) i) (columns_round shift_x1b 12 4093 start_x1b t is (lit≤ tt) room)
-
-  pub round_x2a : t ≡ columns (round 127 (chips_of shift_x2a 12 4092 start_x2a)) → 4107 ≤ length t → Round t 4092 chip_x2a
-  round_x2a is room = subst (Round t 4092) (λ i q. sym (x2a_chip q) i) (columns_round shift_x2a 12 4092 start_x2a t is (lit≤ tt) room)
-
-  pub round_x2b : t ≡ columns (round 127 (chips_of shift_x2b 12 4093 start_x2b)) → 4108 ≤ length t → Round t 4093 chip_x2b
-  round_x2b is room = subst (Round t 4093) (λ i q. sym (x2b_chip q) i) (columns_round shift_x2b 12 4093 start_x2b t is (lit≤ tt) room)
+-- its chips are x 0, x 1 .., as a register gives them
+pub fed : (t : List ℕ) (s : Source) (k : Course) (p place : ℕ) → ((y : ℕ → ℕ) → Round t k.cycle y → Feeds s k y p) → p ≡ place
+    → (shift : ℕ → ℕ) (start : ℕ) (c : Course) (x : ℕ → ℕ) → ((n : ℕ) → x n ≡ stage 12 (times shift n start)) → 127 ≤ c.cycle
+    → k ≡ c → t ≡ columns (round 127 (chips_of shift 12 c.cycle start)) → c.cycle + 15 ≤ length t → Feeds s c x place
+fed t s k p place feeds at shift start c x chips long course is room =
+    told t s k c x p place course at (subst (Round t c.cycle) (λ i q. sym (chips q) i) (columns_round shift 12 c.cycle start t is long room)) feeds
 
 -- ---- a chip
 

@@ -9,10 +9,9 @@ use Rattle.by_place_p.specs.declared.Source.{Source}
 
 -- the numbers of a course fit the columns and one another
 pub record Plan (c : Course) : Type 0 where
-  pub long : 128 ≤ c.cycle
+  pub some : 0 < c.cycle
   pub not_long : c.cycle ≤ 4093
   pub period_some : 0 < c.period
-  pub runs_some : 0 < c.runs
   pub runs_in : c.runs ≤ c.period
   pub stop_in : c.stop ≤ c.week
 

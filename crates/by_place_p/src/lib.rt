@@ -1,8 +1,9 @@
-// P by place: the chips from any place of the week on, written from where the four generators stand there, with no register, no step and no delay line.
-// IS-GPS-200 3.3.2.2: X1 is X1A plus X1B, X2 is X2A plus X2B, and P of a PRN is X1 plus the X2 of as many chips before as its number says.
+// P by place: its chips from any place of the week on, with no register, no step and no delay line.
+// IS-GPS-200 3.3.2.2: X1 is X1A plus X1B, X2 is X2A plus X2B, and P of PRN i is X1 plus the X2 of i
+// chips before. So all that a place asks for is where each of the four generators stands.
 #![tactic(auto)]
 
-ghost use Rattle.std.specs.Prelude.{◌≡◌, ℕ, ◌+◌, ◌-◌, ◌%◌, ◌<◌, ◌≤◌, eqb, slice_index, length, map};
+ghost use Rattle.std.specs.Prelude.{◌≡◌, ℕ, ◌+◌, ◌-◌, ◌%◌, ◌<◌, ◌≤◌, eqb, slice_index, length, map, min};
 ghost use Rattle.machine.specs.Signals.{week_p, places_from};
 ghost use Rattle.week.specs.Week.{course_x1a, course_x1b, course_x2a, course_x2b};
 ghost use Rattle.standard.specs.Standard.{standard};
@@ -17,12 +18,12 @@ use week::{Course, Coursed};
 
 // ---- a generator
 
-// The chips of a generator from a place on: those of a table of columns, from a phase on, round the generator's cycle.
+// The chips of a generator from a place on: those of a table of columns from a phase on, round the
+// cycle, for as many places as are left to the next hold, or to the end of the present one.
 #[derive(Clone, Copy)]
 struct Source {
     columns: &'static [u8],
     phase: usize,
-    // For so many places: up to the next hold, or to the end of the present one.
     left: u64,
 }
 
@@ -30,7 +31,7 @@ static ZEROS: [u8; 4108] = [0; 4108];
 
 static ONES: [u8; 4108] = [255; 4108];
 
-// The columns of one chip over and over, as long as any cycle of the four.
+// The columns of the same chip over and over, in whatever cycle of the four.
 #[inline(always)]
 fn same(one: bool) -> &'static [u8]
     ensures { Same one result.now }
@@ -54,9 +55,10 @@ fn held(columns: &'static [u8], phase: u64, left: u64) -> Source
     }
 }
 
-// A generator at a place of its week: it runs through its period's cycles, is held at the last of their chips until the period ends, and from its stop on
-// is held until the week ends. "the X1B shift register is held in the final state .. of its 3749th cycle", X2A and X2B 37 chips longer, and all three at
-// the week's end.
+// A generator at a place of its week. In a period it runs through its cycles, and then it is held
+// at the last of their chips until the period ends: X1B in its 3,749th cycle until X1A's 3,750th is
+// finished, X2A and X2B until 37 chips later. In the last X1A cycle of the week it is held from its
+// stop on until the week ends. X1A itself is never held.
 #[inline(always)]
 fn standing(columns: &'static [u8], c: Course, place: u64) -> Source
     requires room { c.cycle + 15 ≤ length columns.now }
@@ -83,7 +85,8 @@ fn standing(columns: &'static [u8], c: Course, place: u64) -> Source
 
 // ---- the four
 
-// The place whose X2 chip a PRN adds at a place: as many chips before as its number says, round the week.
+// The place whose X2 chip a PRN adds at a place: as many chips before as its number says, round the
+// week.
 #[inline(always)]
 fn place_of_x2(prn: Prn, place: u64) -> u64
     requires { place < week_p }
@@ -92,7 +95,7 @@ fn place_of_x2(prn: Prn, place: u64) -> u64
     (place + (WEEK_P - u64::from(prn.number))) % WEEK_P
 }
 
-// The four generators, each from where it stands at the place that its chip is taken from.
+// The four generators, each at the place that its chip is taken from.
 #[derive(Clone, Copy)]
 struct Sources {
     x1a: Source,
@@ -101,7 +104,7 @@ struct Sources {
     x2b: Source,
 }
 
-// The four generators for a PRN at a place.
+// X1A and X1B at a place, X2A and X2B at the place that the PRN's delay leads back to.
 #[inline(always)]
 fn sources_at(prn: Prn, place: u64) -> Sources
     requires { place < week_p }
@@ -120,14 +123,10 @@ fn sources_at(prn: Prn, place: u64) -> Sources
 }
 
 impl Sources {
-    // The places that all four tell.
+    // For how many places all four go on as they do.
     #[inline(always)]
     fn left(&self) -> u64
-        ensures x1a { result ≤ self.now.x1a.left }
-        ensures x1b { result ≤ self.now.x1b.left }
-        ensures x2a { result ≤ self.now.x2a.left }
-        ensures x2b { result ≤ self.now.x2b.left }
-        ensures some { 0 < self.now.x1a.left → 0 < self.now.x1b.left → 0 < self.now.x2a.left → 0 < self.now.x2b.left → 0 < result }
+        ensures { result ≡ min (min self.now.x1a.left self.now.x1b.left) (min self.now.x2a.left self.now.x2b.left) }
     {
         let x1 = self.x1a.left.min(self.x1b.left);
         let x2 = self.x2a.left.min(self.x2b.left);
@@ -150,7 +149,8 @@ impl Sources {
 
 // ---- P
 
-// Writes the chips of P of a PRN from a place on, round the week, over a slice: run by run, each up to where a generator is next held or let go.
+// Writes the chips of P of a PRN from a place on, round the week, over a slice: run by run, each up
+// to where one of the generators is next held or let go, a few times in 15 million chips.
 pub fn write(prn: Prn, place: u64, out: &mut [u8])
     requires { place < week_p }
     ensures { out.new ≡ map (standard 2 prn.number) (places_from week_p place (length out.old)) }
@@ -161,9 +161,14 @@ pub fn write(prn: Prn, place: u64, out: &mut [u8])
         let four = sources_at(prn, here);
         let rest = (out.len() - written) as u64;
         let n = four.left().min(rest) as usize;
-        let (a, b) = (four.x1a.columns, four.x1b.columns);
-        let (c, d) = (four.x2a.columns, four.x2b.columns);
-        columns::write_four(a, b, c, d, four.phases(), &mut out[written..written + n]);
+        columns::write_four(
+            four.x1a.columns,
+            four.x1b.columns,
+            four.x2a.columns,
+            four.x2b.columns,
+            four.phases(),
+            &mut out[written..written + n],
+        );
         written += n;
         here = (here + n as u64) % WEEK_P;
     }

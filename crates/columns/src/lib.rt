@@ -1,4 +1,6 @@
-// The chips that each register gives in its cycle, round it, eight of them, 16 apart, in a byte: 16 neighbouring bytes are the next 128 chips.
+// The chips of each register's cycle as columns: a byte has eight chips, 16 apart, so that 16
+// neighbouring bytes are the next 128 chips. A table goes on round its cycle behind the cycle's
+// end, so that 128 chips can be read from any phase.
 #![tactic(auto, unfolding(crate::specs::Columns::chips_of, crate::specs::Columns::round, crate::specs::Columns::beside, crate::specs::Columns::columns, registers::specs::Register::shift, registers::specs::Register::sum_of, registers::specs::Register::stage))]
 
 ghost use Rattle.std.specs.Prelude.{◌≡◌, ℕ, ◌+◌, ◌/◌, ◌%◌, ◌^◌, ◌<◌, ◌≤◌, length, map, take, drop};
@@ -11,55 +13,64 @@ use std::simd::prelude::*;
 
 mod tables;
 
+// G1's columns: IS-GPS-200 3.3.2.3.
 pub fn g1() -> &'static [u8; 1038]
     ensures { result.now ≡ columns (round 127 (chips_of shift_g1 10 1023 start_g1)) }
 {
     &tables::G1
 }
 
+// G2's columns, as it runs, with the delay of no PRN.
 pub fn g2() -> &'static [u8; 1038]
     ensures { result.now ≡ columns (round 127 (chips_of shift_g2 10 1023 start_g2)) }
 {
     &tables::G2
 }
 
+// X1A's columns, of a cycle of 4,092 chips: IS-GPS-200 3.3.2.2.
 pub fn x1a() -> &'static [u8; 4107]
     ensures { result.now ≡ columns (round 127 (chips_of shift_x1a 12 4092 start_x1a)) }
 {
     &tables::X1A
 }
 
+// X1B's columns, of 4,093 chips.
 pub fn x1b() -> &'static [u8; 4108]
     ensures { result.now ≡ columns (round 127 (chips_of shift_x1b 12 4093 start_x1b)) }
 {
     &tables::X1B
 }
 
+// X2A's columns, of 4,092 chips.
 pub fn x2a() -> &'static [u8; 4107]
     ensures { result.now ≡ columns (round 127 (chips_of shift_x2a 12 4092 start_x2a)) }
 {
     &tables::X2A
 }
 
+// X2B's columns, of 4,093 chips.
 pub fn x2b() -> &'static [u8; 4108]
     ensures { result.now ≡ columns (round 127 (chips_of shift_x2b 12 4093 start_x2b)) }
 {
     &tables::X2B
 }
 
+// XA's columns, of a cycle of 8,190 chips: IS-GPS-705 3.3.2.2.
 pub fn xa() -> &'static [u8; 8205]
     ensures { result.now ≡ columns (round 127 (chips_of shift_xa 13 8190 start_xa)) }
 {
     &tables::XA
 }
 
+// XB's columns, of the 8,191 chips of its natural course from all ones: XB of a PRN begins as many
+// chips on as its advance says.
 pub fn xb() -> &'static [u8; 8206]
     ensures { result.now ≡ columns (round 127 (chips_of shift_xb 13 8191 8191)) }
 {
     &tables::XB
 }
 
-// Chips k * 16 and on, one to a lane.
+// Chips k * 16 and on of sixteen columns, one to a lane.
 #[inline(always)]
 fn chips_at(columns: u8x16, k: usize) -> u8x16
     requires { k < 8 }
@@ -68,7 +79,8 @@ fn chips_at(columns: u8x16, k: usize) -> u8x16
     (columns >> u8x16::splat(k as u8)) & u8x16::splat(1)
 }
 
-// Writes the chips of sixteen columns over a slice of at most 128, as many as it has: first by sixteens, the last of them one by one.
+// Writes the first chips of the 128 of sixteen columns over a slice, as many as it has room for: by
+// sixteens, and the last few one by one.
 #[inline(always)]
 pub fn write(columns: u8x16, out: &mut [u8])
     requires { length out.old ≤ 128 }
@@ -84,7 +96,7 @@ pub fn write(columns: u8x16, out: &mut [u8])
     }
 }
 
-// The sixteen columns from a phase on.
+// The sixteen columns from a phase on, whose 128 chips are the next ones.
 #[inline(always)]
 pub fn sixteen(columns: &[u8], phase: usize) -> u8x16
     requires { phase + 16 ≤ length columns.now }
@@ -105,7 +117,8 @@ fn on(phase: usize, cycle: usize) -> usize
     if next < cycle { next } else { next - cycle }
 }
 
-// Four generators.
+// The phases of P's four generators, X1A, X1B, X2A and X2B in order: chips since the start of a
+// cycle of 4,092, 4,093, 4,092 and 4,093 chips.
 #[derive(Clone, Copy)]
 pub struct Four {
     pub a: usize,
@@ -114,7 +127,8 @@ pub struct Four {
     pub d: usize,
 }
 
-// Writes the next chips of four generators, added, over a slice.
+// Writes the next chips of four generators with the cycles of P's, added, over a slice: 128 at a
+// time, each phase taken on round its cycle, and then the rest.
 pub fn write_four(a: &[u8], b: &[u8], c: &[u8], d: &[u8], from: Four, out: &mut [u8])
     requires room_a { 4107 ≤ length a.now }
     requires room_b { 4108 ≤ length b.now }
@@ -147,7 +161,7 @@ pub fn write_four(a: &[u8], b: &[u8], c: &[u8], d: &[u8], from: Four, out: &mut 
     write(x1 ^ x2, &mut out[i..]);
 }
 
-// Two generators, and their cycles.
+// The phases of two generators, and the chips of their cycles.
 #[derive(Clone, Copy)]
 pub struct Two {
     pub a: usize,
@@ -156,7 +170,7 @@ pub struct Two {
     pub cycle_b: usize,
 }
 
-// Writes the next chips of two generators, added, over a slice.
+// Writes the next chips of two generators, added, over a slice, in the same way.
 pub fn write_two(a: &[u8], b: &[u8], from: Two, out: &mut [u8])
     requires room_a { from.cycle_a + 15 ≤ length a.now }
     requires room_b { from.cycle_b + 15 ≤ length b.now }

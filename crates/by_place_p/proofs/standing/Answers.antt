@@ -13,7 +13,7 @@ returns-else-n-c c =
     let p = c.requires.plan in
     λ x r.
     holding c.args.c p c.args.place c.held.result (omega (arith, c.held.ensures.left, mod-lt c.args.place p.period_some)) x c.args.columns.now r
-    (c.args.c.runs % c.args.c.cycle) (mod-lt c.args.c.runs (omega (arith, p.long))) c.held.ensures.phase
+    (c.args.c.runs % c.args.c.cycle) (mod-lt c.args.c.runs p.some) c.held.ensures.phase
     (omega (arith, p.stop_in)) c.held.ensures.columns
     (still_held c.args.c c.args.place c.held.result.left (omega arith) (omega (arith, mod-lt c.args.place p.period_some)) (omega arith))
 
@@ -22,6 +22,6 @@ returns-else-place-c c =
     let p = c.requires.plan in
     λ x r.
     holding c.args.c p c.args.place c.held-else-place-c.result (omega arith) x c.args.columns.now r
-    (c.args.c.stop % c.args.c.period % c.args.c.cycle) (mod-lt (c.args.c.stop % c.args.c.period) (omega (arith, p.long))) c.held-else-place-c.ensures.phase
+    (c.args.c.stop % c.args.c.period % c.args.c.cycle) (mod-lt (c.args.c.stop % c.args.c.period) p.some) c.held-else-place-c.ensures.phase
     (omega arith) c.held-else-place-c.ensures.columns
     (λ j h. phase_stopped c.args.c (c.args.place + j) (omega arith))
