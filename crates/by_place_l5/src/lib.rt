@@ -1,4 +1,5 @@
-// I5 and Q5 by place: at each place the sum modulo 2 of XA's chip and of XB's, which is advanced for the PRN (IS-GPS-705 3.3.2.2). No register is stepped.
+// I5 and Q5 by place: at each place the sum modulo 2 of the chips of XA and of XB, and XB advanced
+// for the PRN (IS-GPS-705 3.3.2.2). No register is stepped.
 #![tactic(auto)]
 
 ghost use Rattle.std.specs.Prelude.{◌≡◌, ◌<◌, length, map};
@@ -9,15 +10,16 @@ ghost use Rattle.by_place_l5.specs.Codes.{code_l5};
 use columns::Two;
 use starts::Prn;
 
-// The chips of a millisecond, after which XA and XB both begin anew, and those of a cycle of each.
+// The chips of a millisecond, after which XA and XB both begin anew.
 const PERIOD: usize = 10_230;
 
+// XA is cut short by one chip, and XB runs its natural course.
 const CYCLE_XA: usize = 8_190;
 
 const CYCLE_XB: usize = 8_191;
 
-// Writes the chips of I5 of a PRN from a place on, round the week, over a slice: one chip a byte, 0 or 1. A place is so many of these chips after the start
-// of the week.
+// Writes the chips of I5 of a PRN from a place on, round the week, over a slice: one chip a byte, 0
+// or 1. A place is so many of these chips after the start of the week.
 #[tactic(auto, using(crate::proofs::Sums::i5_same))]
 pub fn write_i5(prn: Prn, place: u64, out: &mut [u8])
     requires within { place < week_l5 }
@@ -35,8 +37,9 @@ pub fn write_q5(prn: Prn, place: u64, out: &mut [u8])
     write(advances::of_q5(prn), place, out);
 }
 
-// Writes those of an XB that is advanced by so many chips: up to the end of the period, and then period by period. XB's cycle begins at all ones, so that it
-// stands at the advance when a period begins. A week is a whole number of periods, so that its end is the end of one.
+// Writes them for an XB that is advanced by so many chips: up to the end of the period, and then
+// period by period. In its cycle from all ones XB is as many chips on as it is advanced when a period
+// begins. A week is a whole number of periods, so that its end is the end of one.
 fn write(advance: u32, place: u64, out: &mut [u8])
     requires in_cycle { advance < 8191 }
     requires within { place < week_l5 }
