@@ -16,6 +16,7 @@ const CYCLE_CM: usize = 10_230;
 const CYCLE_CL: usize = 767_250;
 
 // Writes the chips of L2 CM of a PRN from a place on, round the week, over a slice.
+#[tactic(auto, using(crate::proofs::ByPlace::cm_in, crate::proofs::ByPlace::cm_placed))]
 pub fn write_cm(prn: Prn, place: u64, out: &mut [u8])
     requires within { place < week_l2 }
     ensures { out.new ≡ map (standard 3 prn.number) (places_from week_l2 place (length out.old)) }
@@ -25,6 +26,7 @@ pub fn write_cm(prn: Prn, place: u64, out: &mut [u8])
 }
 
 // Writes the chips of L2 CL of a PRN from a place on, round the week, over a slice.
+#[tactic(auto, using(crate::proofs::ByPlace::cl_in, crate::proofs::ByPlace::cl_placed))]
 pub fn write_cl(prn: Prn, place: u64, out: &mut [u8])
     requires within { place < week_l2 }
     ensures { out.new ≡ map (standard 4 prn.number) (places_from week_l2 place (length out.old)) }

@@ -1,5 +1,6 @@
-// The register of L2 at a phase, from any start: by the octal digits of the phase, each of them
-// a table of what so many shifts make of the register's hexadecimal digits.
+// The register of L2 at a phase, from any start. Shifts are linear: what so many of them make of a
+// register is the sum modulo 2 of what they make of its hexadecimal digits, whichever PRN's it is.
+// So a table has, for each octal digit of a phase, what its shifts make of each such digit.
 #![tactic(auto)]
 
 ghost use Rattle.std.specs.Prelude.{◌≡◌, ◌+◌, ◌*◌, ◌/◌, ◌%◌, ◌<◌, ◌^◌, take};
@@ -44,8 +45,8 @@ fn moved(register: u32, m: usize) -> u32
     (a ^ b) ^ (c ^ d)
 }
 
-// The register after as many shifts as a phase of L2 CM or L2 CL has, from a start of 27 stages.
-// The phases, IS-GPS-200 3.3.2.4, are below 767,250.
+// The register as many shifts after a start as a phase counts. Phases of L2 CM are below 10,230 and
+// of L2 CL below 767,250 (IS-GPS-200 3.3.2.4).
 pub fn register_at(start: u32, phase: u32) -> u32
     requires start_in { start < 2 ^ 27 }
     requires phase_in { phase < 2 ^ 20 }

@@ -22,7 +22,7 @@ fn rows() -> &'static [u8; 12416]
     &tables::ROWS
 }
 
-// And the register after those chips.
+// For each entry the register after its 128 chips.
 #[tactic(auto, unfolding(crate::specs::Turns::rows_of, crate::specs::Turns::registers_of, columns::specs::Columns::chips_of, columns::specs::Columns::beside, columns::specs::Columns::columns, registers::specs::Times::times, registers::specs::Register::shift_l2, registers::specs::Register::stage))]
 fn registers() -> &'static [u32; 776]
     ensures { result.now ≡ registers_of 776 0 }
