@@ -21,7 +21,8 @@ use Rattle.week.specs.declared.Course.{Course}
 use Rattle.week.specs.declared.Standing.{Standing}
 use Rattle.week.specs.Standing.{standing_at, generator_at}
 use Rattle.generators_at.proofs.Phases.{phase-lt}
-use Rattle.channels_at.specs.Inner.{Tabled, at_standing}
+use Rattle.generators_at.specs.Inner.{at_standing}
+use Rattle.channels_at.specs.Inner.{Tabled}
 
 pub phase_in : (c : Course) (place : ℕ) (at : Standing) → 0 < c.cycle → at ≡ standing_at c place → at.phase < c.cycle
 phase_in c place at some e = rw e (phase-lt c place some)

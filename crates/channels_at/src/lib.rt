@@ -11,7 +11,7 @@ ghost use Rattle.machine.specs.Signals.{week_ca, week_p, week_l2, week_l5, week_
 ghost use Rattle.week.specs.Standing.{generator_at};
 ghost use Rattle.week.specs.Week.{courses_ca, courses_p, courses_cm, courses_cl, courses_l5, channel_at};
 ghost use Rattle.signals.specs.Signals.{number_of};
-ghost use Rattle.channels_at.specs.Inner.{Tabled, at_standing, plain_channel};
+ghost use Rattle.channels_at.specs.Inner.{Tabled};
 
 use generators::{Cl, Cm};
 use machine::{Channel, Generator};
@@ -27,19 +27,6 @@ const EPOCH_P: u64 = 15_345_000;
 
 // ---- a generator
 
-// Where it stands, with its register.
-#[inline(always)]
-fn with_register(at: Standing, register: u32) -> Generator
-    ensures { result ≡ at_standing register at }
-{
-    Generator {
-        register,
-        phase: at.phase,
-        cycles: at.cycles,
-        mode: at.mode,
-    }
-}
-
 // A generator at a place of its week, its register read from a table of its chips that begins
 // `from` chips before phase 0.
 #[inline(always)]
@@ -53,7 +40,7 @@ fn tabled<C: Coursed>(table: &[u64], from: usize, width: u32, place: u64) -> Gen
 {
     let at = generators_at::standing_of::<C>(place);
     let register = sequences::register_at(table, from + at.phase as usize, width);
-    with_register(at, register)
+    generators_at::with_register(at, register)
 }
 
 // One of L2's generators at a place, from the code's start.
@@ -66,28 +53,10 @@ fn own<C: Coursed>(start: u32, place: u64) -> Generator
     ensures { result ≡ generator_at (record C.kind { start = start }) C.course place }
 {
     let at = generators_at::standing_of::<C>(place);
-    with_register(at, l2_registers::register_at(start, at.phase))
+    generators_at::with_register(at, l2_registers::register_at(start, at.phase))
 }
 
 // ---- a channel of each signal. That the place lies in the week is a clause of each: another signal has another week.
-
-// Of a signal with at most two generators, which are handed in. What it lacks is 0 and running.
-#[inline(always)]
-fn plain_at(signal: Signal, prn: Prn, place: u64, first: Generator, second: Generator) -> Channel
-    ensures { result ≡ plain_channel (number_of signal) prn.number place first second }
-{
-    Channel {
-        signal: signal.number(),
-        prn: prn.number,
-        place,
-        epoch: 0,
-        delay: 0,
-        first,
-        second,
-        third: generators::fresh_generator(0, 0),
-        fourth: generators::fresh_generator(0, 0),
-    }
-}
 
 // C/A.
 fn at_ca(prn: Prn, place: u64) -> Channel
@@ -96,7 +65,7 @@ fn at_ca(prn: Prn, place: u64) -> Channel
 {
     let g1 = tabled::<G1>(G1::sequence(), 0, 10, place);
     let g2 = tabled::<G2>(G2::sequence(), 0, 10, place);
-    plain_at(Signal::Ca, prn, place, g1, g2)
+    generators_at::plain_channel(Signal::Ca, prn, place, g1, g2)
 }
 
 // P.
@@ -124,7 +93,7 @@ fn at_cm(prn: Prn, place: u64) -> Channel
 {
     let cm = own::<Cm>(starts::start_cm(prn), place);
     let none = generators::fresh_generator(0, 0);
-    plain_at(Signal::L2Cm, prn, place, cm, none)
+    generators_at::plain_channel(Signal::L2Cm, prn, place, cm, none)
 }
 
 // L2 CL, whose generator is the second.
@@ -134,7 +103,7 @@ fn at_cl(prn: Prn, place: u64) -> Channel
 {
     let cl = own::<Cl>(starts::start_cl(prn), place);
     let none = generators::fresh_generator(0, 0);
-    plain_at(Signal::L2Cl, prn, place, none, cl)
+    generators_at::plain_channel(Signal::L2Cl, prn, place, none, cl)
 }
 
 // I5 and Q5, given how far XB is advanced from all ones, with which its table begins.
@@ -145,7 +114,7 @@ fn at_l5(signal: Signal, prn: Prn, advance: u32, place: u64) -> Channel
 {
     let xa = tabled::<XA>(XA::sequence(), 0, 13, place);
     let xb = tabled::<XB>(XB::sequence(), advance as usize, 13, place);
-    plain_at(signal, prn, place, xa, xb)
+    generators_at::plain_channel(signal, prn, place, xa, xb)
 }
 
 // The channel of a signal and a PRN at a place of the week, which has to lie below the signal's W:

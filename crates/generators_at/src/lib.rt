@@ -3,10 +3,12 @@
 
 ghost use Rattle.std.specs.Prelude.{◌≡◌, ◌<◌, ◌≤◌, ◌^◌};
 ghost use Rattle.week.specs.Standing.{on, in_period, standing_at};
-ghost use Rattle.generators_at.specs.Inner.{Fits, placed_as, brought, Asked};
+ghost use Rattle.signals.specs.Signals.{number_of};
+ghost use Rattle.generators_at.specs.Inner.{Fits, at_standing, placed_as, brought, Asked, plain_channel};
 
 use leaps::{Counted, Leaps};
-use machine::{Generator, Mode};
+use machine::{Channel, Generator, Mode};
+use signals::{Prn, Signal};
 use week::{Course, Coursed, Standing};
 
 // ---- where a generator stands. A course's facts are clauses: it is reckoned from any code's numbers, and the law `fits` of `Coursed` tells them of each.
@@ -67,16 +69,24 @@ pub fn standing_of<C: Coursed>(place: u64) -> Standing
 
 // ---- a generator at a place
 
-// A generator where it stands, with its register brought there.
-fn placed(at: Standing, register: Counted<u32>) -> Counted<Generator>
-    ensures { result ≡ placed_as at register }
+// A generator where it stands, with a register.
+#[inline(always)]
+pub fn with_register(at: Standing, register: u32) -> Generator
+    ensures { result ≡ at_standing register at }
 {
-    let value = Generator {
-        register: register.value,
+    Generator {
+        register,
         phase: at.phase,
         cycles: at.cycles,
         mode: at.mode,
-    };
+    }
+}
+
+// The same, with its register brought there.
+fn placed(at: Standing, register: Counted<u32>) -> Counted<Generator>
+    ensures { result ≡ placed_as at register }
+{
+    let value = with_register(at, register.value);
     Counted {
         value,
         count: register.count,
@@ -96,4 +106,30 @@ pub fn seek<C: Coursed>(start: u32, place: u64, count: Leaps) -> Counted<Generat
         count,
     };
     placed(at, leap_tables::leap::<C::Stages>(from, at.phase))
+}
+
+// ---- a channel
+
+// The channel of a signal with at most two generators, which are handed in. What it lacks is 0 and running.
+#[inline(always)]
+pub fn plain_channel(
+    signal: Signal,
+    prn: Prn,
+    place: u64,
+    first: Generator,
+    second: Generator,
+) -> Channel
+    ensures { result ≡ plain_channel (number_of signal) prn.number place first second }
+{
+    Channel {
+        signal: signal.number(),
+        prn: prn.number,
+        place,
+        epoch: 0,
+        delay: 0,
+        first,
+        second,
+        third: generators::fresh_generator(0, 0),
+        fourth: generators::fresh_generator(0, 0),
+    }
 }

@@ -78,7 +78,7 @@ pub struct Sought {
     pub channel: Channel,
 }
 
-// A signal with at most two generators, which are handed in. What it lacks is 0 and running.
+// A signal with at most two generators, which are handed in.
 fn plain_at(
     signal: Signal,
     prn: Prn,
@@ -89,17 +89,7 @@ fn plain_at(
 ) -> Sought
     ensures { result ≡ plain_landed (number_of signal) prn.number place first second leaps }
 {
-    let channel = Channel {
-        signal: signal.number(),
-        prn: prn.number,
-        place,
-        epoch: 0,
-        delay: 0,
-        first,
-        second,
-        third: generators::fresh_generator(0, 0),
-        fourth: generators::fresh_generator(0, 0),
-    };
+    let channel = generators_at::plain_channel(signal, prn, place, first, second);
     Sought { leaps, channel }
 }
 

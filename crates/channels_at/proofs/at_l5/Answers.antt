@@ -8,14 +8,14 @@ use Rattle.starts.specs.Starts.{start_xa}
 use Rattle.machine.specs.Signals.{week_l5, xa, xb}
 use Rattle.week.specs.Week.{course_xa, course_xb}
 use Rattle.channels_at.proofs.Registers.{read, read_from}
-use Rattle.channels_at.proofs.Channels.{plain_is}
+use Rattle.generators_at.proofs.Plain.{plain_is}
 use Rattle.channels_at.proofs.at_l5.Goals as goal
 
 pub returns : goal.returns
 returns c =
     let a = c.args in
     let start = times shift_xb a.advance 8191 in
-    c.plain_at.ensures
+    c.plain_channel.ensures
     ∙ plain_is week_l5 xa (xb start) course_xa course_xb _ _ a.prn.number a.place c.requires.place_in_week _ _
     (c.tabled-xa.ensures xa (read 13 taps_xa 129 start_xa 8190 _ c.sequence.ensures (lit< tt) (lit≤ tt) (lit< tt) (lit< tt)))
     (c.tabled-xb.ensures (xb start)
