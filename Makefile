@@ -1,6 +1,6 @@
 # `make run` does the main job, `make test` proves and tests everything. `make lib` writes the archive for C, `make codes` the line program, `make console`
 # the console. `make install` puts them, the header and the manual pages below PREFIX (/usr/local), `make uninstall` takes them away. `make bench` times the
-# archive against plain C; `make soak` compares archive and programs with an independent model until it is stopped.
+# archive against plain C, and the calls on a channel; `make soak` compares archive and programs with an independent model until it is stopped.
 
 .PHONY: run codes console lib bench soak test install uninstall places
 

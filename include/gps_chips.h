@@ -31,7 +31,7 @@
  *     cc prog.c $(pkg-config --cflags --libs gps_chips)
  *
  * It runs on every x86-64 processor: no instruction of it is newer than the
- * first of them. The system is Linux, or another one with ELF archives and the
+ * first of them. The system is Linux, or another one with ELF objects and the
  * System V calling convention. The header is C99 and can be included from C++.
  *
  * Example: the first ten C/A chips of PRN 1. It prints 1100100000.

@@ -57,7 +57,7 @@ runs_everywhere() {
 # A jump, a call, SSE2 and padding.
 everywhere='pxor %xmm0, %xmm0; lea table(%rip), %rax; jmp *%rax; nopw 0x0(%rax,%rax); call table; jne table; cmove %rax, %rbx; table: ret'
 
-# One of each addition.
+# An instruction of each later extension.
 above=('popcnt %eax, %eax' 'pextrd $1, %xmm0, %eax' 'pblendw $3, %xmm1, %xmm0' 'pextrw $1, %xmm0, (%rax)' 'pshufb %xmm1, %xmm0' 'haddps %xmm1, %xmm0'
     'crc32b %al, %ebx' 'cmpxchg16b (%rax)' 'movbe (%rax), %ebx' 'lzcnt %eax, %eax' 'tzcnt %eax, %eax' 'andn %eax, %ebx, %ecx' 'shlx %eax, %ebx, %ecx'
     'vpxor %xmm1, %xmm1, %xmm0' 'vpaddb %ymm1, %ymm1, %ymm0' 'vpaddb %zmm1, %zmm1, %zmm0' 'pclmulqdq $0, %xmm1, %xmm0' 'aesenc %xmm1, %xmm0')

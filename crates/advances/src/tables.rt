@@ -1,5 +1,5 @@
-// The advances of XB from all ones: IS-GPS-705, Table 3-I, PRN 1 to 37. Apart from the starts, which `starts` has for all that open, step and seek: windows
-// alone take an advance.
+// The advances of XB from all ones: IS-GPS-705, Table 3-I, PRN 1 to 37. Apart from the starts, which `starts` has for all that open, step and seek:
+// chips and channels by place take an advance.
 
 // I5.
 pub const I5: [u32; 37] = [

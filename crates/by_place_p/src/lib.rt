@@ -57,8 +57,8 @@ fn held(columns: &'static [u8], phase: u64, left: u64) -> Source
 
 // A generator at a place of its week. In a period it runs through its cycles, and then it is held
 // at the last of their chips until the period ends: X1B in its 3,749th cycle until X1A's 3,750th is
-// finished, X2A and X2B until 37 chips later. In the last X1A cycle of the week it is held from its
-// stop on until the week ends. X1A itself is never held.
+// finished, X2A and X2B until 37 chips later. In the week's last X1A cycle X2A and X2B are held from
+// their stop on until the week ends. X1A itself is never held.
 #[inline(always)]
 fn standing(columns: &'static [u8], c: Course, place: u64) -> Source
     requires room { c.cycle + 15 ≤ length columns.now }

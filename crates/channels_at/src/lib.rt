@@ -1,5 +1,6 @@
 // The channel of a signal and PRN at any place of the week: where each generator stands by
-// division, its register from the table of its chips. No leap is made and no step.
+// division, its register from the table of its chips or, of L2, moved there from its start by a
+// table of moves. No leap is made and no step.
 #![tactic(auto)]
 
 ghost use Rattle.std.specs.Prelude.{◌≡◌, ℕ, ◌+◌, ◌/◌, ◌<◌, ◌≤◌, ◌^◌, length};

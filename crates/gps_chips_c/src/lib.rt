@@ -1,4 +1,4 @@
-// The call for C: `include/gps_chips.h` declares it. The archive that `make lib` writes has no other symbol, and needs none but C's memset.
+// The call for C: `include/gps_chips.h` declares it. The archive that `make lib` writes has no other global symbol and needs none.
 #![tactic(auto)]
 
 ghost use Rattle.std.specs.Prelude.{◌≡◌, length};

@@ -1,5 +1,5 @@
 -- The laws of leaps, each for registers of every width together: f is any linear shift of registers of s stages, and t a table of n rows that passes the
--- test of the rule.
+-- test of the rule. The law of digits is of any row.
 -- Assumes nothing.
 use Rattle.std.specs.Prelude.{ℕ, ◌*◌, ◌^◌, ◌≤◌, ◌<◌, ◌≡◌, true, List, length}
 use Rattle.registers.specs.Row.{combine}
