@@ -21,17 +21,6 @@ fn write<F: Family>(family: F, ch: Channel, out: &mut [u8]) -> Channel
     requires decided { F.decided family ch.prn }
     ensures { WindowFrom ch out.old out.new result }
 {
-    write_here(family, ch, out)
-}
-
-// The same, inlined: where a caller drops the channel after it, what only that channel needs isn't
-// computed, a tenth of the time of C/A and L2.
-#[inline(always)]
-fn write_here<F: Family>(family: F, ch: Channel, out: &mut [u8]) -> Channel
-    requires of { Of (F.signal family) ch }
-    requires decided { F.decided family ch.prn }
-    ensures { WindowFrom ch out.old out.new result }
-{
     let mut here = ch;
     for chip in out.iter_mut() {
         *chip = family.chip(here);
@@ -41,9 +30,9 @@ fn write_here<F: Family>(family: F, ch: Channel, out: &mut [u8]) -> Channel
 }
 
 // Writes the chips of a channel in range, of any signal, over a slice, and gives the channel after
-// them. That it is in range is a clause: an `InRange` would be made of the channel that a seek
+// them. That it is in range is a clause: an `InRange` would be made of the channel that a call
 // gives, only to be taken apart here. An arm for each signal: the compiler names each `match` that
-// lacks one. P's and L5's loops are slower set in here.
+// lacks one.
 #[inline(always)]
 pub fn write_chips(ch: Channel, out: &mut [u8]) -> Channel
     requires { Ranged ch }
@@ -53,11 +42,11 @@ pub fn write_chips(ch: Channel, out: &mut [u8]) -> Channel
     match Signal::of(ch.signal) {
         Signal::Ca => {
             let stages = starts::stages_ca(prn);
-            write_here(Ca { stages }, ch, out)
+            write(Ca { stages }, ch, out)
         }
         Signal::P => write(P, ch, out),
-        Signal::L2Cm => write_here(Cm::new(starts::start_cm(prn)), ch, out),
-        Signal::L2Cl => write_here(Cl::new(starts::start_cl(prn)), ch, out),
+        Signal::L2Cm => write(Cm::new(starts::start_cm(prn)), ch, out),
+        Signal::L2Cl => write(Cl::new(starts::start_cl(prn)), ch, out),
         Signal::I5 => {
             let start = starts::start_i5(prn);
             write(L5 { start }, ch, out)

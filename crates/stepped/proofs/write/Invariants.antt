@@ -1,8 +1,8 @@
--- `stepped::write_here` meets its contract.
+-- `stepped::write` meets its contract.
 -- Assumes nothing.
 use Rattle.std.proofs.Common.{length}
 use Rattle.stepped.proofs.ChipsSoFar.{SoFar}
-use Rattle.stepped.proofs.write_here.Given as goal
+use Rattle.stepped.proofs.write.Given as goal
 
 abbrev pub invariant-loop-chip : goal.invariant-loop-chip
 invariant-loop-chip g l = SoFar (g.F.Family.signal l.fn.family) (length l.initial.out) l.initial.out l.initial.here l.out l.here l.chip-index

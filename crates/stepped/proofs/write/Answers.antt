@@ -1,8 +1,8 @@
--- `stepped::write_here` meets its contract.
+-- `stepped::write` meets its contract.
 -- Assumes nothing.
 use Rattle.std.proofs.Common.{arith}
 use Rattle.stepped.proofs.ChipsSoFar.{begun, one_more}
-use Rattle.stepped.proofs.write_here.Goals as goal
+use Rattle.stepped.proofs.write.Goals as goal
 
 pub loop-chip-init : goal.loop-chip-init
 loop-chip-init g c = begun _ _ _ _ c.requires.of (omega arith)
