@@ -22,7 +22,8 @@ pub struct GeneratorNumbers {
     pub left: u32,
 }
 
-// A channel in numbers that C has too: `machine::Channel`. Any numbers are a channel, and the calls judge them.
+// A channel in numbers that C has too: `machine::Channel`. Any numbers are a channel, and the calls
+// judge them; but each `held` is a `bool`, and C has to pass 0 or 1 there, for no other byte is one.
 #[repr(C)]
 #[derive(Clone, Copy)]
 pub struct Numbers {

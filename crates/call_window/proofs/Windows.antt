@@ -1,26 +1,21 @@
 -- What a window answers, case by case.
 --     window_out_of_range, window_too_many, window_no_room   4, 5 and 6, each where those before it don't apply
 --     window_accepted                                        all else
---     window_written                                         what an accepted one leaves, its chips written to the rest of the buffer
 --     cases, by_the_standards                                those cases, and that the chips are the standards', of whatever is that reply
 -- Assumes nothing.
 use mathlib.Core.Bool.{true, false}
-use mathlib.Core.List.{List, ◌++◌}
+use mathlib.Core.List.{List}
 use mathlib.Core.Path.{◌≡◌, sym, ap, ap₂, ◌∙◌}
-use Prim.Native.Nat.{ℕ, ◌+◌, ◌-◌, ◌%◌, ◌≤◌, ◌<◌}
-use native.Mathlib.Omega.{arith}
-use lib.ListN.{length, take, drop}
-use lib.Seq.{take_at, drop_at, length-take-le}
+use Prim.Native.Nat.{ℕ, ◌+◌, ◌%◌, ◌≤◌, ◌<◌}
+use lib.ListN.{length}
 use borrow.Author.Tests.{le-leb, lt-leb}
 use Rattle.machine.specs.Signals.{week_of}
 use Rattle.machine.specs.Machine.{opened, advance, chips, in_range}
 use Rattle.machine.specs.declared.Channel.{Channel}
 use Rattle.machine.proofs.Advance.{advance-add}
-use Rattle.machine.proofs.Chips.{chips-length}
 use Rattle.machine.proofs.RangeLaw.{reached_in}
 use Rattle.week.proofs.LawOfTheWeek.{law_of_the_week, weeks_pass}
 use Rattle.standard.proofs.EveryChip.{every_window}
-use Rattle.columns.proofs.Rows.{put_back}
 use Rattle.replies.specs.Reply.{Reply, written}
 use Rattle.call_window.specs.Window.{most_chips, written_with, unwritten_with, window_reply, Cases, standard_chips, ByTheStandards}
 
@@ -41,27 +36,6 @@ module _ (ch : Channel) (count : ℕ) (buffer : List ℕ) (at : ℕ) where
       → window_reply ch count buffer at ≡ written_with (chips count ch) (written at (chips count ch) buffer) (advance count ch)
   unfolding window_reply
   window_accepted ranged few room = simp (ranged, le-leb count most_chips few, le-leb (at + count) (length buffer) room)
-
-  -- "the count bytes from `at` onward"
-  bytes_there : at + count ≤ length buffer → take count (drop at (written at (chips count ch) buffer)) ≡ chips count ch
-  bytes_there room =
-      let behind : List ℕ = drop (at + length (chips count ch)) buffer in
-      ap (take count) (drop_at (take at buffer) (chips count ch ++ behind) at (length-take-le at buffer (omega (arith, room))))
-      ∙ take_at (chips count ch) behind count (chips-length count ch)
-
-  pub window_written : in_range ch ≡ true → count ≤ most_chips → at + count ≤ length buffer → (after : List ℕ) (next : Channel)
-      → after
-      ≡ take at buffer
-      ++ ((chips count ch ++ drop count (take (length buffer - at) (drop at buffer))) ++ drop (length buffer - at) (drop at buffer))
-      → next ≡ advance count ch
-      → written_with (take count (drop at after)) after next ≡ window_reply ch count buffer at
-  window_written ranged few room after next after_is next-is =
-      let all : after ≡ written at (chips count ch) buffer =
-      after_is
-      ∙ put_back (chips count ch) count at buffer
-      ∙ ap (λ (n : ℕ). take at buffer ++ (chips count ch ++ drop (at + n) buffer)) (sym (chips-length count ch))
-      in
-      rw (all, next-is, bytes_there room) (sym (window_accepted ranged few room))
 
   module _ (reply : Reply) (is : reply ≡ window_reply ch count buffer at) where
     pub cases : Cases ch count buffer at reply

@@ -1,15 +1,13 @@
 -- Registers at a place.
 --     phase_in       a phase lies in the cycle
 --     with_register_is, tabled_is   a generator with the register of its phase, and one whose register is read from a table
---     table_length   a table of n words
 --     words_tell, word_small   its words' digits
 --     read, read_from   a table of a register's chips, which begins with its start or so many chips earlier
 -- Assumes nothing.
-use Prim.Native.Nat.{ℕ, zero, suc, ◌+◌, ◌-◌, ◌/◌, ◌%◌, ◌^◌, ◌<◌, ◌≤◌}
-use mathlib.Core.Path.{◌≡◌, refl, ap, ◌∙◌}
+use Prim.Native.Nat.{ℕ, ◌+◌, ◌-◌, ◌/◌, ◌%◌, ◌^◌, ◌<◌, ◌≤◌}
+use mathlib.Core.Path.{◌≡◌, ap, ◌∙◌}
 use mathlib.Core.List.{List}
 use native.Mathlib.Omega.{arith}
-use lib.ListN.{length}
 use Rattle.registers.specs.Times.{times}
 use Rattle.registers.specs.Register.{stage, shift}
 use Rattle.registers.proofs.Repeat.{times-add}
@@ -37,11 +35,6 @@ module _ (k : Kind) (c : Course) (place : ℕ) where
       → at ≡ standing_at c place → register ≡ word_in table (from + at.phase) / 2 ^ (64 - width) → at_standing register at ≡ generator_at k c place
   tabled_is table from width at register some tabled ea er =
       with_register_is at register ea (er ∙ tabled at.phase (phase_in c place at some ea))
-
-pub table_length : (f : ℕ → ℕ) (s n r : ℕ) → length (sequence f s n r) ≡ n
-unfolding sequence
-table_length f s zero r = refl
-table_length f s (suc n) r = ap suc (table_length f s n (times f 64 r))
 
 module _ (s : ℕ) (f : ℕ → ℕ) (n begin : ℕ) where
   pub words_tell : (last : ℕ) (table : List ℕ) → table ≡ sequence f s n begin → last / 64 + 1 < n → (q : ℕ) → q ≤ last

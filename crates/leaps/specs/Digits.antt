@@ -31,7 +31,9 @@ at_digits (suc g) d r = bit_xor (get_or d (r % 16) 0) (at_digits g (drop 16 d) (
 abbrev pub digits_of : ℕ → ℕ
 digits_of s = (s + 3) / 4
 
--- a table has no rows by digits, or those of its rows
+-- a table of rows of s numbers has no rows by digits, or those of its rows
 pub record AsTheRows (s : ℕ) (t d : List ℕ) : Type 0 where
+  -- the register, a number of 32 bits, has no more stages than bits, and so eight digits at most
   pub few_stages : s ≤ 32
+  -- d is empty, or else it is every row of the table by digits, one after the other
   pub as_rows : 0 < length d → d ≡ rows_by_digits (digits_of s) (rows_of s t) s t
