@@ -79,6 +79,21 @@ fn chips_at(columns: u8x16, k: usize) -> u8x16
     (columns >> u8x16::splat(k as u8)) & u8x16::splat(1)
 }
 
+// Writes the chips of sixteen columns over a slice one by one, from a number on to its end. Those
+// before that number stand there.
+#[inline(always)]
+fn write_last(columns: u8x16, from: usize, out: &mut [u8])
+    requires room { length out.old ≤ 128 }
+    requires within { from ≤ length out.old }
+    requires begun { take from out.old ≡ row (chip_in columns) from }
+    ensures { out.new ≡ row (chip_in columns) (length out.old) }
+{
+    let lanes = columns.to_array();
+    for m in from..out.len() {
+        out[m] = (lanes[m % 16] >> (m / 16)) % 2;
+    }
+}
+
 // Writes the first chips of the 128 of sixteen columns over a slice, as many as it has room for: by
 // sixteens, and the last few one by one.
 #[inline(always)]
@@ -90,10 +105,7 @@ pub fn write(columns: u8x16, out: &mut [u8])
     for k in 0..sixteens {
         chips_at(columns, k).copy_to_slice(&mut out[k * 16..k * 16 + 16]);
     }
-    let lanes = columns.to_array();
-    for m in sixteens * 16..out.len() {
-        out[m] = (lanes[m % 16] >> (m / 16)) % 2;
-    }
+    write_last(columns, sixteens * 16, out);
 }
 
 // The sixteen columns from a phase on, whose 128 chips are the next ones.
