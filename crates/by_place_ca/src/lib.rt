@@ -12,7 +12,7 @@ use starts::Prn;
 mod delays;
 
 // The chips after which G1 and G2 come again.
-const CYCLE: usize = 1_023;
+const CYCLE: usize = machine::LAST_G as usize + 1;
 
 // Writes the chips of C/A of a PRN from a place on, round the week, over a slice: one chip a byte, 0
 // or 1. A place is so many of these chips after the start of the week. To go back by the delay, round

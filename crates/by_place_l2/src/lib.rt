@@ -11,9 +11,9 @@ ghost use Rattle.turns.specs.Turns.{chip_from};
 use starts::Prn;
 
 // The chips of a cycle: "C_M,i(t) pattern is reset after 10230 chips", and C_L,i(t) after 767250.
-const CYCLE_CM: usize = 10_230;
+const CYCLE_CM: usize = machine::LAST_CM as usize + 1;
 
-const CYCLE_CL: usize = 767_250;
+const CYCLE_CL: usize = machine::LAST_CL as usize + 1;
 
 // Writes the chips of L2 CM of a PRN from a place on, round the week, over a slice.
 #[tactic(auto, using(crate::proofs::ByPlace::cm_in, crate::proofs::ByPlace::cm_placed))]

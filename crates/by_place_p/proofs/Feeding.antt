@@ -9,7 +9,7 @@
 use Rattle.std.proofs.Common.{◌≡◌, ℕ, zero, suc, ◌+◌, ◌*◌, ◌/◌, ◌%◌, ◌^◌, ◌<◌, ◌≤◌, true, false, List, get_or, arith, refl, sym, ap, subst, ◌∙◌}
 use Rattle.std.specs.Prelude.{replicate, cond, eqb}
 use Rattle.std.proofs.lemmas.Simd.{length-replicate, get_or-replicate}
-use Rattle.std.proofs.Math.Nat.{add-mod, mod-eq_of_lt, mod-lt, zero-div}
+use Rattle.std.proofs.Math.Nat.{mod-add-mod, mod-eq_of_lt, mod-lt, zero-div}
 use Rattle.std.proofs.lemmas.Nat.{mod-mul-add, div-add-mod'}
 use Rattle.registers.proofs.Below.{equal_at}
 use Rattle.week.specs.declared.Course.{Course}
@@ -53,13 +53,6 @@ mod_on t j p h =
     let parts : t + j ≡ t / p * p + (t % p + j) = omega (arith, div-add-mod' t p) in
     ap (λ x. x % p) parts ∙ mod-mul-add (t / p) p (t % p + j) h
 
--- round a cycle, once more or not
-mod_then : (n j c : ℕ) → 0 < c → (n % c + j) % c ≡ (n + j) % c
-mod_then n j c some =
-    add-mod (n % c) j c
-    ∙ ap (λ x. (x + j % c) % c) (mod-eq_of_lt (mod-lt n some))
-    ∙ sym (add-mod n j c)
-
 module _ (c : Course) (p : Plan c) (t : ℕ) (s : Source) (some : 0 < s.left) (x : ℕ → ℕ) where
   -- from its phase on, to the hold or the week's end
   pub running : Round s.columns.now c.cycle x → s.phase ≡ t % c.period % c.cycle → t < c.stop → t % c.period + s.left ≤ c.runs → t + s.left ≤ c.stop → Feeds s c x t
@@ -76,7 +69,7 @@ module _ (c : Course) (p : Plan c) (t : ℕ) (s : Source) (some : 0 < s.left) (x
               let later : (t + j) % c.period ≡ t % c.period + j = mod_on t j c.period (omega (arith, runs, h, p.runs_in)) in
               ap x
               (ap (λ n. (n + j) % c.cycle) phase
-              ∙ mod_then (t % c.period) j c.cycle p.some
+              ∙ mod-add-mod (t % c.period) c.cycle j
               ∙ ap (λ n. n % c.cycle) (sym later)
               ∙ sym (phase_runs c (t + j) (omega (arith, stops, h)) (rw later (omega (arith, runs, h))))),
         );

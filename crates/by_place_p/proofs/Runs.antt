@@ -13,7 +13,7 @@ use Rattle.week.specs.Week.{course_x1a, course_x1b, course_x2a, course_x2b}
 use Rattle.standard.specs.Standard.{x1a, x1b, x2, code_p}
 use Rattle.standard.proofs.Phases.{phase_runs, x1b_phase, x2a_phase, x2b_phase}
 use Rattle.columns.specs.Rows.{row}
-use Rattle.columns.specs.Columns.{chips_of, round, columns, Round, Sums, sum_chip}
+use Rattle.columns.specs.Columns.{chips_of, round, in_columns, Round, Sums, sum_chip}
 use Rattle.columns.specs.declared.Four.{Four}
 use Rattle.columns.proofs.Rounds.{columns_round}
 use Rattle.by_place_p.specs.Feeds.{Feeds, chip_x1a, chip_x1b, chip_x2a, chip_x2b}
@@ -26,7 +26,7 @@ use Rattle.by_place_p.proofs.Feeding.{mod_on, told}
 -- its chips are x 0, x 1 .., as a register gives them
 pub fed : (t : List ℕ) (s : Source) (k : Course) (p place : ℕ) → ((y : ℕ → ℕ) → Round t k.cycle y → Feeds s k y p) → p ≡ place
     → (shift : ℕ → ℕ) (start : ℕ) (c : Course) (x : ℕ → ℕ) → ((n : ℕ) → x n ≡ stage 12 (times shift n start)) → 127 ≤ c.cycle
-    → k ≡ c → t ≡ columns (round 127 (chips_of shift 12 c.cycle start)) → c.cycle + 15 ≤ length t → Feeds s c x place
+    → k ≡ c → t ≡ in_columns (round 127 (chips_of shift 12 c.cycle start)) → c.cycle + 15 ≤ length t → Feeds s c x place
 fed t s k p place feeds at shift start c x chips long course is room =
     told t s k c x p place course at (subst (Round t c.cycle) (λ i q. sym (chips q) i) (columns_round shift 12 c.cycle start t is long room)) feeds
 

@@ -3,9 +3,8 @@
 --     shifted_lanes   a shift of each lane, and its lowest digit
 --     stored          lanes that fill a slice
 --     chip_of_lane    where a chip stands
---     take_row        the front of a row
 -- Assumes nothing.
-use Rattle.std.proofs.Common.{◌≡◌, ℕ, ◌+◌, ◌-◌, ◌*◌, ◌/◌, ◌%◌, ◌^◌, ◌<◌, ◌≤◌, List, length, map, get_or, take, drop, bit_and, arith, refl, sym, ap, ◌∙◌}
+use Rattle.std.proofs.Common.{◌≡◌, ℕ, ◌+◌, ◌*◌, ◌/◌, ◌%◌, ◌^◌, ◌<◌, ◌≤◌, List, length, map, get_or, take, drop, bit_and, arith, refl, sym, ap, ◌∙◌}
 use Rattle.std.specs.Prelude.{replicate}
 use Rattle.std.specs.Simd.Lanes.{zip2}
 use Rattle.std.proofs.lemmas.Simd.{zip2_splat, map-map, put_chunk_whole}
@@ -13,11 +12,11 @@ use Rattle.std.proofs.lemmas.Nat.{and_mask}
 use Rattle.std.proofs.lemmas.Grind.{same_number_lists}
 use Rattle.std.proofs.lemmas.List.{get_or-map, length-map}
 use lib.ListN.{length-drop}
-use lib.Seq.{length-take-le, take_at}
+use lib.Seq.{length-take-le}
 use lib.Lanes.{put_chunk}
 use Rattle.columns.specs.Columns.{chip_in}
 use Rattle.columns.specs.Rows.{row}
-use Rattle.columns.proofs.Rows.{row_at, row-length, row_then}
+use Rattle.columns.proofs.Rows.{row_at, row-length}
 
 pub row_map : (g : ℕ → ℕ) (v : List ℕ) (n : ℕ) → length v ≡ n → map g v ≡ row (λ j. g (get_or v j 0)) n
 row_map g v n e =
@@ -46,8 +45,3 @@ chip_of_lane v k j h =
     let lane : (k * 16 + j) % 16 ≡ j = omega (arith, h) in
     let shifted : (k * 16 + j) / 16 ≡ k = omega (arith, h) in
     rw (lane, shifted) refl
-
-pub take_row : (x : ℕ → ℕ) (k n : ℕ) → k ≤ n → take k (row x n) ≡ row x k
-take_row x k n h =
-    let whole : n ≡ k + (n - k) = omega (arith, h) in
-    ap (λ m. take k (row x m)) whole ∙ ap (take k) (row_then x k (n - k)) ∙ take_at (row x k) (row (λ j. x (k + j)) (n - k)) k (row-length x k)

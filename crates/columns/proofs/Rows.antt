@@ -8,8 +8,7 @@
 --     put_behind   what a write behind a list leaves, where the list stands before what the slice had
 --     filled_none, filled_all      a slice none of which is filled, and one that is filled whole
 --     digit_more                   one more number written
---     part_written                 a row more written to a part of the slice
---     part_filled, rest_filled     the same where the part was lent, and where it is the rest
+--     part_filled, rest_filled     a row more written to a part of the slice that was lent, and to the rest
 -- Assumes nothing.
 use Prim.Native.Nat.{ℕ, zero, suc, ◌+◌, ◌-◌, ◌<◌, ◌≤◌}
 use mathlib.Core.Path.{◌≡◌, refl, sym, ap, ap₂, ◌∙◌}
@@ -96,7 +95,7 @@ module _ (x : ℕ → ℕ) (new : List ℕ) (n : ℕ) where
   digit_more b filled h e = take_more_set new n b h ∙ ap₂ (λ (l : List ℕ) (v : ℕ). l ++ (v ∷ [])) filled e ∙ ap (row x) (sym (add-one n))
 
   -- a row more written to the next m numbers
-  pub part_written : (y : ℕ → ℕ) (part : List ℕ) (k m to : ℕ) → take n new ≡ row x n → part ≡ row y k → ((j : ℕ) → j < k → y j ≡ x (n + j)) → n ≤ length new
+  part_written : (y : ℕ → ℕ) (part : List ℕ) (k m to : ℕ) → take n new ≡ row x n → part ≡ row y k → ((j : ℕ) → j < k → y j ≡ x (n + j)) → n ≤ length new
       → to ≡ n + k → take to (put_mid n m new part) ≡ row x to
   part_written y part k m to filled is same le all =
       let long : length part ≡ k = ap length is ∙ row-length y k in

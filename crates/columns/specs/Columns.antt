@@ -21,8 +21,8 @@ unfoldable pub beside : ℕ → ℕ → List ℕ → List ℕ
 beside m k xs = zip2 (λ a b. a + m * b) xs (drop k xs)
 
 -- eight digits in a number, 16 apart, the first as the lowest
-unfoldable pub columns : List ℕ → List ℕ
-columns xs = beside 16 64 (beside 4 32 (beside 2 16 xs))
+unfoldable pub in_columns : List ℕ → List ℕ
+in_columns xs = beside 16 64 (beside 4 32 (beside 2 16 xs))
 
 -- chip m of the 128 in sixteen such numbers
 abbrev pub chip_in : List ℕ → ℕ → ℕ

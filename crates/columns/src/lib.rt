@@ -1,12 +1,12 @@
 // The chips of each register's cycle as columns: a byte has eight chips, 16 apart, so that 16
 // neighbouring bytes are the next 128 chips. A table goes on round its cycle behind the cycle's
 // end, so that 128 chips can be read from any phase.
-#![tactic(auto, unfolding(crate::specs::Columns::chips_of, crate::specs::Columns::round, crate::specs::Columns::beside, crate::specs::Columns::columns, registers::specs::Register::shift, registers::specs::Register::sum_of, registers::specs::Register::stage))]
+#![tactic(auto, unfolding(crate::specs::Columns::chips_of, crate::specs::Columns::round, crate::specs::Columns::beside, crate::specs::Columns::in_columns, registers::specs::Register::shift, registers::specs::Register::sum_of, registers::specs::Register::stage))]
 
 ghost use Rattle.std.specs.Prelude.{◌≡◌, ℕ, ◌+◌, ◌/◌, ◌%◌, ◌^◌, ◌<◌, ◌≤◌, length, map, take, drop};
 ghost use Rattle.registers.specs.Register.{shift_g1, shift_g2, shift_x1a, shift_x1b, shift_x2a, shift_x2b, shift_xa, shift_xb};
 ghost use Rattle.starts.specs.Starts.{start_g1, start_g2, start_x1a, start_x1b, start_x2a, start_x2b, start_xa};
-ghost use Rattle.columns.specs.Columns.{chips_of, round, columns, chip_in, Round, Sums, SumsTwo};
+ghost use Rattle.columns.specs.Columns.{chips_of, round, in_columns, chip_in, Round, Sums, SumsTwo};
 ghost use Rattle.columns.specs.Rows.{row};
 
 use std::simd::prelude::*;
@@ -15,49 +15,49 @@ mod tables;
 
 // G1's columns: IS-GPS-200 3.3.2.3.
 pub fn g1() -> &'static [u8; 1038]
-    ensures { result.now ≡ columns (round 127 (chips_of shift_g1 10 1023 start_g1)) }
+    ensures { result.now ≡ in_columns (round 127 (chips_of shift_g1 10 1023 start_g1)) }
 {
     &tables::G1
 }
 
 // G2's columns, as it runs, with the delay of no PRN.
 pub fn g2() -> &'static [u8; 1038]
-    ensures { result.now ≡ columns (round 127 (chips_of shift_g2 10 1023 start_g2)) }
+    ensures { result.now ≡ in_columns (round 127 (chips_of shift_g2 10 1023 start_g2)) }
 {
     &tables::G2
 }
 
 // X1A's columns, of a cycle of 4,092 chips: IS-GPS-200 3.3.2.2.
 pub fn x1a() -> &'static [u8; 4107]
-    ensures { result.now ≡ columns (round 127 (chips_of shift_x1a 12 4092 start_x1a)) }
+    ensures { result.now ≡ in_columns (round 127 (chips_of shift_x1a 12 4092 start_x1a)) }
 {
     &tables::X1A
 }
 
 // X1B's columns, of 4,093 chips.
 pub fn x1b() -> &'static [u8; 4108]
-    ensures { result.now ≡ columns (round 127 (chips_of shift_x1b 12 4093 start_x1b)) }
+    ensures { result.now ≡ in_columns (round 127 (chips_of shift_x1b 12 4093 start_x1b)) }
 {
     &tables::X1B
 }
 
 // X2A's columns, of 4,092 chips.
 pub fn x2a() -> &'static [u8; 4107]
-    ensures { result.now ≡ columns (round 127 (chips_of shift_x2a 12 4092 start_x2a)) }
+    ensures { result.now ≡ in_columns (round 127 (chips_of shift_x2a 12 4092 start_x2a)) }
 {
     &tables::X2A
 }
 
 // X2B's columns, of 4,093 chips.
 pub fn x2b() -> &'static [u8; 4108]
-    ensures { result.now ≡ columns (round 127 (chips_of shift_x2b 12 4093 start_x2b)) }
+    ensures { result.now ≡ in_columns (round 127 (chips_of shift_x2b 12 4093 start_x2b)) }
 {
     &tables::X2B
 }
 
 // XA's columns, of a cycle of 8,190 chips: IS-GPS-705 3.3.2.2.
 pub fn xa() -> &'static [u8; 8205]
-    ensures { result.now ≡ columns (round 127 (chips_of shift_xa 13 8190 start_xa)) }
+    ensures { result.now ≡ in_columns (round 127 (chips_of shift_xa 13 8190 start_xa)) }
 {
     &tables::XA
 }
@@ -65,7 +65,7 @@ pub fn xa() -> &'static [u8; 8205]
 // XB's columns, of the 8,191 chips of its natural course from all ones: XB of a PRN begins as many
 // chips on as its advance says.
 pub fn xb() -> &'static [u8; 8206]
-    ensures { result.now ≡ columns (round 127 (chips_of shift_xb 13 8191 8191)) }
+    ensures { result.now ≡ in_columns (round 127 (chips_of shift_xb 13 8191 8191)) }
 {
     &tables::XB
 }
@@ -79,6 +79,21 @@ fn chips_at(columns: u8x16, k: usize) -> u8x16
     (columns >> u8x16::splat(k as u8)) & u8x16::splat(1)
 }
 
+// Writes the chips of sixteen columns over a slice one by one, from a number on to its end. Those
+// before that number stand there.
+#[inline(always)]
+fn write_last(columns: u8x16, from: usize, out: &mut [u8])
+    requires room { length out.old ≤ 128 }
+    requires within { from ≤ length out.old }
+    requires begun { take from out.old ≡ row (chip_in columns) from }
+    ensures { out.new ≡ row (chip_in columns) (length out.old) }
+{
+    let lanes = columns.to_array();
+    for m in from..out.len() {
+        out[m] = (lanes[m % 16] >> (m / 16)) % 2;
+    }
+}
+
 // Writes the first chips of the 128 of sixteen columns over a slice, as many as it has room for: by
 // sixteens, and the last few one by one.
 #[inline(always)]
@@ -90,10 +105,7 @@ pub fn write(columns: u8x16, out: &mut [u8])
     for k in 0..sixteens {
         chips_at(columns, k).copy_to_slice(&mut out[k * 16..k * 16 + 16]);
     }
-    let lanes = columns.to_array();
-    for m in sixteens * 16..out.len() {
-        out[m] = (lanes[m % 16] >> (m / 16)) % 2;
-    }
+    write_last(columns, sixteens * 16, out);
 }
 
 // The sixteen columns from a phase on, whose 128 chips are the next ones.

@@ -7,7 +7,7 @@ ghost use Rattle.registers.specs.Times.{times};
 ghost use Rattle.registers.specs.Register.{shift_l2};
 ghost use Rattle.columns.specs.Columns.{chip_in};
 ghost use Rattle.columns.specs.Rows.{row};
-ghost use Rattle.turns.specs.Turns.{rows_of, registers_of, chip_from};
+ghost use Rattle.turns.specs.Turns.{rows_from, registers_of, chip_from};
 
 use std::simd::prelude::*;
 
@@ -15,15 +15,15 @@ mod tables;
 
 // The columns of the 128 chips of each register that has one byte alone: entry 256 g + b, of sixteen
 // columns, is of the register whose byte g is b.
-#[tactic(auto, unfolding(crate::specs::Turns::rows_of, crate::specs::Turns::registers_of, columns::specs::Columns::chips_of, columns::specs::Columns::beside, columns::specs::Columns::columns, registers::specs::Times::times, registers::specs::Register::shift_l2, registers::specs::Register::stage))]
+#[tactic(auto, unfolding(crate::specs::Turns::rows_from, crate::specs::Turns::registers_of, columns::specs::Columns::chips_of, columns::specs::Columns::beside, columns::specs::Columns::in_columns, registers::specs::Times::times, registers::specs::Register::shift_l2, registers::specs::Register::stage))]
 fn rows() -> &'static [u8; 12416]
-    ensures { result.now ≡ rows_of 776 0 }
+    ensures { result.now ≡ rows_from 776 0 }
 {
     &tables::ROWS
 }
 
 // For each entry the register after its 128 chips.
-#[tactic(auto, unfolding(crate::specs::Turns::rows_of, crate::specs::Turns::registers_of, columns::specs::Columns::chips_of, columns::specs::Columns::beside, columns::specs::Columns::columns, registers::specs::Times::times, registers::specs::Register::shift_l2, registers::specs::Register::stage))]
+#[tactic(auto, unfolding(crate::specs::Turns::rows_from, crate::specs::Turns::registers_of, columns::specs::Columns::chips_of, columns::specs::Columns::beside, columns::specs::Columns::in_columns, registers::specs::Times::times, registers::specs::Register::shift_l2, registers::specs::Register::stage))]
 fn registers() -> &'static [u32; 776]
     ensures { result.now ≡ registers_of 776 0 }
 {

@@ -1,9 +1,9 @@
 -- `columns::write` meets its contract.
 -- Assumes nothing.
-use Rattle.std.proofs.Common.{◌+◌, ◌-◌, ◌*◌, ◌/◌, ◌%◌, ◌^◌, ◌≡◌, ◌∙◌, arith, get_or, length, sym, refl}
+use Rattle.std.proofs.Common.{◌+◌, ◌-◌, ◌*◌, ◌/◌, ◌%◌, ◌^◌, ◌≡◌, ◌∙◌, arith, get_or, length, sym}
 use Rattle.columns.specs.Columns.{chip_in}
 use Rattle.columns.proofs.Lanes.{stored, chip_of_lane}
-use Rattle.columns.proofs.Rows.{part_filled, filled_none, filled_all, digit_more}
+use Rattle.columns.proofs.Rows.{part_filled, filled_none}
 use Rattle.columns.proofs.write.Goals as goal
 
 pub loop-k-init : goal.loop-k-init
@@ -19,18 +19,8 @@ loop-k-preserved c =
     (stored (λ c. c / 2 ^ l.k % 2) v c.chips_at.result l.out n _ (c.fits-columns.0 ∙ sym sixteen) c.chips_at.ensures (omega arith))
     (λ j h. chip_of_lane v l.k j (omega (arith, h))) (omega arith) (omega arith)
 
-pub loop-m-init : goal.loop-m-init
-loop-m-init c =
+pub write_last-requires-clause-begun : goal.write_last-requires-clause-begun
+write_last-requires-clause-begun c =
     let l = c.loop-k in
     let n : l.k ≡ length c.args.out.now / 16 = omega arith in
     rw n at l.invariant
-
-pub loop-m-preserved : goal.loop-m-preserved
-loop-m-preserved c =
-    let l = c.loop-m in
-    digit_more (chip_in c.args.columns) l.out l.m _ l.invariant (omega arith) refl
-
-pub returns : goal.returns
-returns c =
-    let l = c.loop-m in
-    filled_all (chip_in c.args.columns) l.out l.m (length c.args.out.now) l.invariant (omega arith) (omega arith)

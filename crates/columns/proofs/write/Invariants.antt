@@ -7,6 +7,3 @@ use Rattle.columns.proofs.write.Given as goal
 
 abbrev pub invariant-loop-k : goal.invariant-loop-k
 invariant-loop-k l = take (l.k * 16) l.out ≡ row (chip_in l.columns) (l.k * 16)
-
-abbrev pub invariant-loop-m : goal.invariant-loop-m
-invariant-loop-m l = take l.m l.out ≡ row (chip_in l.fn.columns) l.m

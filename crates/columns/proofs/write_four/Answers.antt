@@ -1,7 +1,6 @@
 -- `columns::write_four` meets its contract.
 -- Assumes nothing.
 use Rattle.std.proofs.Common.{◌≡◌, ◌+◌, ◌-◌, ◌*◌, ◌/◌, arith, length, ◌≤◌}
-use lib.Dec.{lit<}
 use Rattle.columns.specs.Columns.{sum_chip}
 use Rattle.columns.proofs.Sums.{next_phase, block_tells}
 use Rattle.columns.proofs.Rows.{part_filled, rest_filled, filled_none}
@@ -25,10 +24,10 @@ loop-block-preserved c =
     let i = l.block * 128 in
     let at = l.invariant in
     let next : (l.block + 1) * 128 ≡ i + 128 = omega arith in (
-      next_phase from.a i _ 4092 l.qa _ (lit< tt) at.0 c.on-qa.ensures next,
-      next_phase from.b i _ 4093 l.qb _ (lit< tt) at.1 c.on-qb.ensures next,
-      next_phase from.c i _ 4092 l.qc _ (lit< tt) at.2 c.on-qc.ensures next,
-      next_phase from.d i _ 4093 l.qd _ (lit< tt) at.3 c.on-qd.ensures next,
+      next_phase from.a i _ 4092 l.qa _ at.0 c.on-qa.ensures next,
+      next_phase from.b i _ 4093 l.qb _ at.1 c.on-qb.ensures next,
+      next_phase from.c i _ 4092 l.qc _ at.2 c.on-qc.ensures next,
+      next_phase from.d i _ 4093 l.qd _ at.3 c.on-qd.ensures next,
       λ x y z w ra rb rc rd.
           part_filled (sum_chip x y z w from) l.out i _ _ _ _ (at.4 x y z w ra rb rc rd) c.write.ensures
           (λ j h. block_tells _ _ _ _ x y z w ra rb rc rd from i l.qa l.qb l.qc l.qd at.0 at.1 at.2 at.3 _ _ _ _

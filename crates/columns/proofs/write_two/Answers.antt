@@ -31,8 +31,8 @@ loop-block-preserved c =
     let some_a : 0 < from.cycle_a = omega (arith, r.long_a) in
     let some_b : 0 < from.cycle_b = omega (arith, r.long_b) in
     let next : (l.block + 1) * 128 ≡ i + 128 = omega arith in (
-      next_phase from.a i _ from.cycle_a l.qa _ some_a at.0 c.on-qa.ensures next,
-      next_phase from.b i _ from.cycle_b l.qb _ some_b at.1 c.on-qb.ensures next,
+      next_phase from.a i _ from.cycle_a l.qa _ at.0 c.on-qa.ensures next,
+      next_phase from.b i _ from.cycle_b l.qb _ at.1 c.on-qb.ensures next,
       subst (λ q. q < from.cycle_a) (sym c.on-qa.ensures) (mod-lt (l.qa + 128) some_a),
       subst (λ q. q < from.cycle_b) (sym c.on-qb.ensures) (mod-lt (l.qb + 128) some_b),
       λ x y ra rb.
