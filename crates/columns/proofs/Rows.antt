@@ -4,20 +4,19 @@
 --     row_at       a number of it
 --     row_same     two rows of the same numbers
 --     row_then     a row, and more behind it
---     put_back     what a write to the rest of a slice leaves in the whole
 --     put_behind   what a write behind a list leaves, where the list stands before what the slice had
 --     filled_none, filled_all      a slice none of which is filled, and one that is filled whole
 --     digit_more                   one more number written
 --     part_filled, rest_filled     a row more written to a part of the slice that was lent, and to the rest
 -- Assumes nothing.
-use Prim.Native.Nat.{ℕ, zero, suc, ◌+◌, ◌-◌, ◌<◌, ◌≤◌}
+use Prim.Native.Nat.{ℕ, zero, suc, ◌+◌, ◌<◌, ◌≤◌}
 use mathlib.Core.Path.{◌≡◌, refl, sym, ap, ap₂, ◌∙◌}
 use mathlib.Core.List.{List, [], ◌∷◌, ◌++◌, append-nil, append_assoc}
 use mathlib.Core.Logic.{⊎_elim}
 use native.Mathlib.Nat.{add-zero, add-suc, eq-or-lt_of_le, le_of_suc-le-suc}
 use native.Mathlib.Numerals.{add-one}
 use native.Mathlib.Omega.{arith}
-use lib.ListN.{length, get_or, take, drop, set, length-drop, length-append, drop_of_length-le}
+use lib.ListN.{length, get_or, take, drop, set, length-drop, length-append}
 use lib.Seq.{get_or_at, get_or-take, length-take-le, take_all, take_at, drop_at, drop-drop}
 use borrow.Rule.Slice.PartMut.{put_mid, same_len_mid}
 use Rattle.std.proofs.lemmas.List.{take_more_set}
@@ -59,16 +58,6 @@ row_then x m (suc n) =
     ap (row x) (add-suc m n)
     ∙ ap (λ (l : List ℕ). l ++ (x (m + n) ∷ [])) (row_then x m n)
     ∙ append_assoc (row x m) (row (λ j. x (m + j)) n) (x (m + n) ∷ [])
-
--- what a write to the rest of a slice leaves in the whole
-pub put_back : (written : List ℕ) (k n : ℕ) (l : List ℕ)
-    → take n l ++ ((written ++ drop k (take (length l - n) (drop n l))) ++ drop (length l - n) (drop n l))
-    ≡ take n l ++ (written ++ drop (n + k) l)
-put_back written k n l =
-    let long : length (drop n l) ≡ length l - n = length-drop n l in
-    let all : take (length l - n) (drop n l) ≡ drop n l = take_all (length l - n) (drop n l) (omega arith) in
-    let none : drop (length l - n) (drop n l) ≡ [] = drop_of_length-le (drop n l) {i = length l - n} (omega arith) in
-    simp (all, none, append-nil, drop-drop)
 
 -- a list x before what is left of a slice, and y written behind x
 pub put_behind : (x y old : List ℕ) (n k : ℕ) → length x ≡ n
