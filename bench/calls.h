@@ -15,7 +15,7 @@ struct generator_numbers {
     uint32_t left; /* where it is held: the chips still to repeat */
 };
 
-/* A channel, as document 01 has it, in plain numbers. Each call makes the engine's channel of them, and numbers again. */
+/* A channel in plain numbers. Each call makes the engine's channel of them, and numbers again. */
 struct channel_numbers {
     uint32_t signal, prn;
     uint64_t place;
