@@ -1,7 +1,7 @@
 -- The answer of a window.
 --     window_fits                      an accepted one has room
 --     window_of                        it looks at the length of its buffer alone: no answer shows a byte that the call has not written
---     window_text, window_dot          so its answer is that of a buffer of so many zeros
+--     window_text, window_dot          so the answer of one on the first bytes of a longer buffer is that of a buffer of so many zeros
 -- Assumes nothing.
 use Rattle.std.proofs.Common.{ℕ, ◌+◌, ◌++◌, ◌≤◌, ◌≡◌, refl, sym, ap, subst, ◌∙◌, arith, Bool, true, false, cond, List, length, take, replicate, Option, None}
 use Rattle.std.proofs.lemmas.List.{length-take-le, length-replicate}
@@ -65,15 +65,16 @@ module _ (ch : Channel) (count at : ℕ) where
       rw (le-leb bytes most_length few)
       (alike_line (window_reply ch count b at) (window_reply ch count (buffer bytes) at) same, ap (handed_back last) same.channel)
 
-  module _ (bytes : ℕ) (few : ltb most_length bytes ≡ false) where
+  -- of the first bytes of a longer one
+  module _ (bytes : ℕ) (lent : List ℕ) (few : ltb most_length bytes ≡ false) (room : most_length ≤ length lent) where
     fits : bytes ≤ most_length
     fits = ltb-false most_length bytes few
 
-    long : bytes ≡ length (take bytes (replicate {A = ℕ} most_length 0))
-    long = sym (length-take-le bytes (replicate {A = ℕ} most_length 0) (subst (λ (n : ℕ). bytes ≤ n) (sym (length-replicate {A = ℕ} most_length 0)) fits))
+    long : bytes ≡ length (take bytes lent)
+    long = sym (length-take-le bytes lent (omega (arith, fits, room)))
 
-    pub window_text : window_line (window_reply ch count (take bytes (replicate most_length 0)) at) ≡ window_answered ch count bytes at
-    window_text = (window_of bytes (take bytes (replicate most_length 0)) None fits long).0
+    pub window_text : window_line (window_reply ch count (take bytes lent) at) ≡ window_answered ch count bytes at
+    window_text = (window_of bytes (take bytes lent) None fits long).0
 
-    pub window_dot : (last : Option Channel) → handed_back last (window_reply ch count (take bytes (replicate most_length 0)) at).channel ≡ window_last last ch count bytes at
-    window_dot last = (window_of bytes (take bytes (replicate most_length 0)) last fits long).1
+    pub window_dot : (last : Option Channel) → handed_back last (window_reply ch count (take bytes lent) at).channel ≡ window_last last ch count bytes at
+    window_dot last = (window_of bytes (take bytes lent) last fits long).1

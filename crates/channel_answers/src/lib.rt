@@ -1,7 +1,7 @@
 // The calls on a channel as the console makes them: each appends its reply as a line of text, and keeps what `.` stands for after it.
 #![tactic(auto)]
 
-ghost use Rattle.std.specs.Prelude.{◌≡◌, ◌≤◌, ◌+◌, ◌++◌};
+ghost use Rattle.std.specs.Prelude.{◌≡◌, ◌≤◌, ◌+◌, ◌++◌, length};
 ghost use Rattle.arrayvec.specs.ArrayVec.{array_vec_len};
 ghost use Rattle.refusals.specs.Refusal.{number_of};
 ghost use Rattle.call_open.specs.Open.{open_reply};
@@ -9,7 +9,7 @@ ghost use Rattle.call_seek.specs.Seek.{seek_reply};
 ghost use Rattle.call_step.specs.Step.{step_reply};
 ghost use Rattle.call_window.specs.Window.{window_reply};
 ghost use Rattle.texts.specs.Texts.{refused_line};
-ghost use Rattle.answer_lines.specs.Lines.{handed_back};
+ghost use Rattle.answer_lines.specs.Lines.{handed_back, most_length};
 ghost use Rattle.channel_answers.specs.ChannelAnswers.{open_line, seek_line, step_line, window_line, window_answered, opened_last, window_last};
 
 use answer_lines::{MOST_LENGTH, ROOM};
@@ -108,9 +108,29 @@ fn window_on<const N: usize>(
     }
 }
 
-// A window on a buffer of so many bytes, each 0. Chips has one like it: one for both would take a closure, and state what that appends for any buffer.
-// Inlined, it would have every byte of a session pay for its stack.
-#[inline(never)]
+// A window on a buffer of so many bytes, the first of those that are lent: no answer shows a byte
+// that the call has not written, so it plays no part what stands there, and nothing is cleared.
+pub fn window_in<const N: usize>(
+    ch: Channel,
+    count: u64,
+    bytes: u64,
+    at: u64,
+    lent: &mut [u8],
+    last: &mut Option<Channel>,
+    out: &mut ArrayVec<u8, N>,
+)
+    requires room { array_vec_len out.old + ROOM ≤ N }
+    requires lent { most_length ≤ length lent.old }
+    ensures text { out.new.items ≡ out.old.items ++ window_answered ch count bytes at }
+    ensures dot { last.new ≡ window_last last.old ch count bytes at }
+{
+    if answer_lines::too_long(bytes) {
+        return answer_lines::error(out);
+    }
+    window_on(ch, count, &mut lent[..bytes as usize], at, last, out);
+}
+
+// The same on a buffer of its own, of zeros: for who has none to lend.
 pub fn window<const N: usize>(
     ch: Channel,
     count: u64,
@@ -123,9 +143,5 @@ pub fn window<const N: usize>(
     ensures text { out.new.items ≡ out.old.items ++ window_answered ch count bytes at }
     ensures dot { last.new ≡ window_last last.old ch count bytes at }
 {
-    if answer_lines::too_long(bytes) {
-        return answer_lines::error(out);
-    }
-    let mut longest = [0u8; MOST_LENGTH];
-    window_on(ch, count, &mut longest[..bytes as usize], at, last, out);
+    window_in(ch, count, bytes, at, &mut [0u8; MOST_LENGTH], last, out);
 }

@@ -10,7 +10,7 @@ ghost use Rattle.sessions.specs.Sessions.{output as whole_output, output_so_far}
 
 use arrayvec::ArrayVec;
 use line_programs::{Dialog, Failed, Sink, Source};
-use sessions::{Console, OUT, Session};
+use sessions::{Console, OUT, Remembered, Session};
 use std::io::IsTerminal;
 
 // What `help` is answered.
@@ -52,7 +52,7 @@ fn answer_all<R: Source, W: Sink>(help: &[u8], input: &mut R, output: &mut W) ->
     ensures input { IfErr result (λ e. OnInput e (HasFailed (R.failed input.new) (R.interrupted input.new) ⊎ IsEndless (R.remaining input.old))) }
     ensures output { IfErr result (λ e. OnOutput e (HasFailed (W.failed output.new) (W.interrupted output.new))) }
 {
-    let mut session: Session = Dialog::new(Console { help }, None);
+    let mut session: Session = Dialog::new(Console { help }, Remembered::from(None));
     let mut out = ArrayVec::<u8, OUT>::new();
     line_programs::answer_all(&mut session, &mut out, input, output)
 }

@@ -13,9 +13,6 @@ use Rattle.gps_chips.specs.Chips.{chips_answer, by_the_machine, chips_buffer}
 use Rattle.answer_lines.specs.Lines.{answered_line, most_length}
 use Rattle.place_answers.specs.PlaceAnswers.{chips_line, chips_answered}
 
-abbrev longest : List ℕ
-longest = replicate most_length 0
-
 module _ (signal prn place : ℕ) where
   pub chips_short : (n : ℕ) → chips_answer signal prn place n ≡ 0 → n ≤ 65536
   unfolding chips_answer
@@ -33,9 +30,9 @@ module _ (signal prn place : ℕ) where
   unfolding chips_buffer
   chips_filled b after e filled = rw e (ap (answered_line 0) (filled ∙ rw e refl))
 
-  pub chips_text : (bytes : ℕ) → ltb most_length bytes ≡ false
-      → chips_line signal prn place (length (take bytes longest)) ≡ chips_answered signal prn place bytes
-  chips_text bytes few =
+  pub chips_text : (bytes : ℕ) (lent : List ℕ) → ltb most_length bytes ≡ false → most_length ≤ length lent
+      → chips_line signal prn place (length (take bytes lent)) ≡ chips_answered signal prn place bytes
+  chips_text bytes lent few room =
       let fits : bytes ≤ most_length = ltb-false most_length bytes few in
-      let long : length (take bytes longest) ≡ bytes = length-take-le bytes longest (subst (λ (n : ℕ). bytes ≤ n) (sym (length-replicate {A = ℕ} most_length 0)) fits) in
+      let long : length (take bytes lent) ≡ bytes = length-take-le bytes lent (omega (arith, fits, room)) in
       rw (le-leb bytes most_length fits) (ap (chips_line signal prn place) long)

@@ -3,6 +3,7 @@
 
 ghost use Rattle.std.specs.Prelude.{◌≡◌, ◌≤◌, ◌+◌, ◌++◌, length};
 ghost use Rattle.arrayvec.specs.ArrayVec.{array_vec_len};
+ghost use Rattle.answer_lines.specs.Lines.{most_length};
 ghost use Rattle.places.specs.Places.{reading_reply, place_of_reply, gap_reply};
 ghost use Rattle.place_answers.specs.PlaceAnswers.{chips_line, reading_line, place_of_line, gap_line, chips_answered};
 
@@ -25,9 +26,27 @@ fn chips_on<const N: usize>(
     }
 }
 
-// Chips on a buffer of so many bytes, each 0. A window has one like it: one for both would take a closure, and state what that appends for any buffer.
-// Inlined, it would have every byte of a session pay for its stack.
-#[inline(never)]
+// Chips on a buffer of so many bytes, the first of those that are lent: an answer shows what the call
+// wrote, so it plays no part what stands there, and nothing is cleared.
+pub fn chips_in<const N: usize>(
+    signal: u64,
+    prn: u64,
+    place: u64,
+    bytes: u64,
+    lent: &mut [u8],
+    out: &mut ArrayVec<u8, N>,
+)
+    requires room { array_vec_len out.old + ROOM ≤ N }
+    requires lent { most_length ≤ length lent.old }
+    ensures { out.new.items ≡ out.old.items ++ chips_answered signal prn place bytes }
+{
+    if answer_lines::too_long(bytes) {
+        return answer_lines::error(out);
+    }
+    chips_on(signal, prn, place, &mut lent[..bytes as usize], out);
+}
+
+// The same on a buffer of its own, of zeros: for who has none to lend.
 pub fn chips<const N: usize>(
     signal: u64,
     prn: u64,
@@ -38,11 +57,7 @@ pub fn chips<const N: usize>(
     requires { array_vec_len out.old + ROOM ≤ N }
     ensures { out.new.items ≡ out.old.items ++ chips_answered signal prn place bytes }
 {
-    if answer_lines::too_long(bytes) {
-        return answer_lines::error(out);
-    }
-    let mut longest = [0u8; MOST_LENGTH];
-    chips_on(signal, prn, place, &mut longest[..bytes as usize], out);
+    chips_in(signal, prn, place, bytes, &mut [0u8; MOST_LENGTH], out);
 }
 
 // The next three are of one shape: each names its call and its line, which one for all would be handed.

@@ -9,6 +9,7 @@ use native.Mathlib.Omega.{arith}
 use lib.ListN.{length}
 use borrow.Author.Tests.{ne_eqb}
 use Rattle.line_programs.specs.Dialogs.{Keeps, Laws}
+use Rattle.sessions.specs.declared.Remembered.{Remembered}
 use Rattle.sessions.specs.Sessions.{Talk, answer_of, asked, last_answer, talk, course}
 
 module _ (help : List ℕ) where
@@ -18,7 +19,7 @@ module _ (help : List ℕ) where
   pub keeps : Keeps (course help)
   keeps = record { next = λ _ _. refl; said = λ _ _. refl; last = λ _. refl; twice = λ _. refl }
 
-  pub laws : Laws 1024 talk (course help)
+  pub laws : Laws 1024 (λ (line : List ℕ) (memory : Remembered). talk line memory.last) (course help)
   laws =
       record {
         keeps = keeps;

@@ -7,9 +7,10 @@ ghost use Rattle.commands.specs.Commands.{command_of};
 ghost use Rattle.sessions.specs.Sessions.{Talk as Standing, answer_of, last_of, talk, course, EverySession};
 ghost use Rattle.sessions.specs.Scripts.{EveryScript, StepAsks};
 ghost use Rattle.sessions.specs.Laws.{laws};
+ghost use Rattle.answer_lines.specs.Lines.{most_length};
 ghost use Rattle.answer_lines.specs.declared.TheConstants.{ROOM as longest};
 
-use answer_lines::ROOM;
+use answer_lines::{MOST_LENGTH, ROOM};
 use arrayvec::ArrayVec;
 use commands::Command;
 use line_programs::{Answers, Dialog, Talk};
@@ -28,19 +29,40 @@ pub struct Console<'a> {
     ghost brief: { length help.now ≤ longest },
 }
 
-// A session remembers from line to line what `.` stands for: nothing, before any open was accepted.
+// What a session has from line to line: what `.` stands for, nothing before any open was accepted,
+// and the buffer of windows and chips. What a command left in that plays no part in later answers,
+// so nothing of it is cleared.
+#[derive(Clone, Copy)]
+pub struct Remembered {
+    pub last: Option<Channel>,
+    pub buffer: [u8; MOST_LENGTH],
+}
+
+impl From<Option<Channel>> for Remembered {
+    fn from(last: Option<Channel>) -> Remembered
+        ensures { result.last ≡ last }
+    {
+        Remembered {
+            last,
+            buffer: [0u8; MOST_LENGTH],
+        }
+    }
+}
+
 pub type Session<'a> = Dialog<Console<'a>, KEPT>;
 
 impl<'a> Console<'a> {
-    // The answer to a line that is given with its newline, behind what stands there. `last` is what `.` stands for.
+    // The answer to a line that is given with its newline, behind what stands there. `last` is what `.` stands for, and `buffer` is lent to windows and chips.
     #[tactic(auto, unfolding(crate::specs::Sessions::answer_of, crate::specs::Sessions::last_of))]
     fn reply<const N: usize>(
         &self,
         line: &[u8],
         last: &mut Option<Channel>,
+        buffer: &mut [u8],
         out: &mut ArrayVec<u8, N>,
     )
-        requires { array_vec_len out.old + ROOM ≤ N }
+        requires room { array_vec_len out.old + ROOM ≤ N }
+        requires buffer { most_length ≤ length buffer.old }
         ensures said { out.new.items ≡ out.old.items ++ answer_of self.now.help.now (command_of last.old line.now) }
         ensures last { last.new ≡ last_of last.old (command_of last.old line.now) }
     {
@@ -53,10 +75,10 @@ impl<'a> Console<'a> {
             Command::Seek(ch, place) => channel_answers::seek(ch, place, last, out),
             Command::Step(ch) => channel_answers::step(ch, last, out),
             Command::Window(ch, count, bytes, at) => {
-                channel_answers::window(ch, count, bytes, at, last, out)
+                channel_answers::window_in(ch, count, bytes, at, buffer, last, out)
             }
             Command::Chips(signal, prn, place, bytes) => {
-                place_answers::chips(signal, prn, place, bytes, out)
+                place_answers::chips_in(signal, prn, place, bytes, buffer, out)
             }
             Command::Reading(signal, place) => place_answers::reading(signal, place, out),
             Command::PlaceOf(signal, epoch, chip) => {
@@ -69,11 +91,11 @@ impl<'a> Console<'a> {
 }
 
 impl<'a> Talk<KEPT> for Console<'a> {
-    type Memory = Option<Channel>;
+    type Memory = Remembered;
 
     ghost State = { Standing };
 
-    ghost state = { talk };
+    ghost state = { λ line memory. talk line memory.last };
 
     ghost course = { λ console. course console.help.now };
 
@@ -89,19 +111,19 @@ impl<'a> Talk<KEPT> for Console<'a> {
 }
 
 impl<'a, const N: usize> Answers<KEPT, N> for Console<'a> {
-    fn answer(&self, line: &[u8], last: &mut Option<Channel>, out: &mut ArrayVec<u8, N>) {
+    fn answer(&self, line: &[u8], memory: &mut Remembered, out: &mut ArrayVec<u8, N>) {
         // A command is read with its newline.
         let mut ended = ArrayVec::<u8, KEPT>::new();
         texts::append(line, &mut ended);
         line_programs::keep(&mut ended, b'\n');
-        self.reply(ended.as_slice(), last, out);
+        self.reply(ended.as_slice(), &mut memory.last, &mut memory.buffer, out);
     }
 
     // A last line that lacks its newline is answered as if it had one.
     #[tactic(auto, using(crate::specs::Laws::begun_left))]
-    fn answer_last(&self, line: &[u8], last: &Option<Channel>, out: &mut ArrayVec<u8, N>) {
-        let mut last = *last;
-        self.answer(line, &mut last, out);
+    fn answer_last(&self, line: &[u8], memory: &Remembered, out: &mut ArrayVec<u8, N>) {
+        let mut memory = *memory;
+        self.answer(line, &mut memory, out);
     }
 }
 

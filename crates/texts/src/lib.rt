@@ -16,6 +16,15 @@ fn chip_digit(chip: u8) -> u8
     if chip == 0 { b'0' } else { b'1' }
 }
 
+// Chips made a digit each, where they stand.
+fn to_digits(chips: &mut [u8])
+    ensures { chips.new ≡ map chip_digit chips.old }
+{
+    for chip in chips.iter_mut() {
+        *chip = chip_digit(*chip);
+    }
+}
+
 // Text behind what stands there.
 pub fn append<const N: usize>(text: &[u8], out: &mut ArrayVec<u8, N>)
     requires room { array_vec_len out.old + length text.now ≤ N }
@@ -30,9 +39,9 @@ pub fn append_chips<const N: usize>(chips: &[u8], out: &mut ArrayVec<u8, N>)
     requires room { array_vec_len out.old + length chips.now ≤ N }
     ensures { out.new.items ≡ out.old.items ++ map chip_digit chips.now }
 {
-    for chip in chips {
-        out.push(chip_digit(*chip));
-    }
+    let from = out.len();
+    append(chips, out);
+    to_digits(&mut out.as_mut_slice()[from..]);
 }
 
 // The reply `refused N` behind what stands there.
