@@ -44,12 +44,21 @@ pub fn append_chips<const N: usize>(chips: &[u8], out: &mut ArrayVec<u8, N>)
     to_digits(&mut out.as_mut_slice()[from..]);
 }
 
-// The reply `refused N` behind what stands there.
+// The reply `refused N` behind what stands there, of any number of one digit.
+pub fn append_refused_number<const N: usize>(n: u32, out: &mut ArrayVec<u8, N>)
+    requires digit { n ≤ 9 }
+    requires room { array_vec_len out.old + 10 ≤ N }
+    ensures { out.new.items ≡ out.old.items ++ refused_line n }
+{
+    append(b"refused ", out);
+    out.push(b'0' + n as u8);
+    out.push(b'\n');
+}
+
+// The same of a refusal.
 pub fn append_refused<const N: usize>(refusal: Refusal, out: &mut ArrayVec<u8, N>)
     requires room { array_vec_len out.old + 10 ≤ N }
     ensures { out.new.items ≡ out.old.items ++ refused_line (number_of refusal) }
 {
-    append(b"refused ", out);
-    out.push(b'0' + refusal.number() as u8);
-    out.push(b'\n');
+    append_refused_number(refusal.number(), out);
 }
