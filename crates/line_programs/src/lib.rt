@@ -223,6 +223,28 @@ impl Sink for Stdout {
     }
 }
 
+// Of a reader or a writer that is lent nothing is said but what `Read` and `Write` say, so any can
+// be lent.
+impl<R: Read> Source for &mut R {
+    ghost failed = { λ _. ⊤ };
+
+    ghost interrupted = { λ _. None };
+
+    fn fetch(&mut self, buffer: &mut [u8]) -> io::Result<usize> {
+        Read::read(self, buffer)
+    }
+}
+
+impl<W: Write> Sink for &mut W {
+    ghost failed = { λ _. ⊤ };
+
+    ghost interrupted = { λ _. None };
+
+    fn put(&mut self, bytes: &[u8]) -> io::Result<usize> {
+        Write::write(self, bytes)
+    }
+}
+
 // Whether a signal interrupted a call.
 fn is_interrupted(error: &io::Error) -> bool
     ensures { IsTrue result ↔ (error_kind error.now ≡ Interrupted) }

@@ -1,19 +1,21 @@
 -- What a line is answered.
 --     is_numbered                                     a refusal has a number
 --     refused_by_chips, refused_by_count, accepted    what is refused, where Chips is asked for 64 chips at most
---     counted, none_counted, many_counted, filled     the count, and the chips of an accepted one
+--     counted, none_counted, many_counted             the count
+--     few_asked, none_asked, most_asked               how many chips Chips is asked for
+--     filled                                          the chips of an accepted count
 --     reply_refused, reply_malformed                  the reply to a refusal
 --     numbers                                         how long four numbers are
 --     long_refused                                    a line of more than 55 bytes is refused
 -- Assumes nothing.
 use Prim.Native.Nat.{ℕ, ◌≤◌, ◌<◌}
-use mathlib.Core.Bool.{Bool, true, false, cond}
+use mathlib.Core.Bool.{Bool, true, false, cond, ◌&&◌}
 use mathlib.Core.List.{List}
-use mathlib.Core.Path.{◌≡◌, refl, sym, ap, ◌∙◌}
+use mathlib.Core.Path.{◌≡◌, refl, sym, ap, subst, ◌∙◌}
 use native.Mathlib.Omega.{arith}
-use lib.Dec.{ltb, eqb}
+use lib.Dec.{ltb, leb, eqb}
 use lib.ListN.{length}
-use borrow.Author.Tests.{le-leb, lt-leb, ne_eqb}
+use borrow.Author.Tests.{leb-true, leb-false, le-leb, lt-leb, ne_eqb}
 use Rattle.refusals.specs.Refusal.{number_of}
 use Rattle.refusals.specs.declared.Refusal.{Refusal}
 use Rattle.refusals.specs.declared.Refusal.TheVariants as refusals
@@ -25,7 +27,7 @@ use Rattle.machine.proofs.Tests.{four}
 use Rattle.fields.specs.Fields.{after, is_number}
 use Rattle.fields.proofs.Bytes.{number_is, sides_whole}
 use Rattle.texts.specs.Texts.{refused_line}
-use Rattle.lines.specs.Lines.{signal_field, prn_field, place_field, count_field, is_count, line_refusal, reply_to, are_numbers, fields_reply, line_reply}
+use Rattle.lines.specs.Lines.{signal_field, prn_field, place_field, count_field, is_count, chips_asked, line_refusal, reply_to, are_numbers, fields_reply, line_reply}
 
 -- ---- what is refused
 
@@ -71,6 +73,24 @@ none_counted n none = rw none refl
 
 pub many_counted : (n : ℕ) → 64 < n → is_count n ≡ false
 many_counted n many = rw (le-leb 1 n (omega (arith, many)), lt-leb n 64 many) refl
+
+-- Chips is asked for the count where that is 64 at most, and else for none
+pub few_asked : (n : ℕ) → n ≤ 64 → n ≡ chips_asked n
+few_asked n few = by (leb 1 n) refl
+  where
+    by : (t : Bool) → leb 1 n ≡ t → n ≡ cond (t && leb n 64) n 0
+    by true e = rw (le-leb n 64 few) refl
+    by false e = omega (arith, leb-false 1 n e)
+
+pub none_asked : (n : ℕ) → 64 < n → 0 ≡ chips_asked n
+none_asked n many = rw (le-leb 1 n (omega (arith, many)), lt-leb n 64 many) refl
+
+pub most_asked : (n : ℕ) → chips_asked n ≤ 64
+most_asked n = by (leb n 64) refl
+  where
+    by : (t : Bool) → leb n 64 ≡ t → chips_asked n ≤ 64
+    by true e = subst (λ (k : ℕ). k ≤ 64) (few_asked n (leb-true n 64 e)) (leb-true n 64 e)
+    by false e = subst (λ (k : ℕ). k ≤ 64) (none_asked n (leb-false n 64 e)) (omega arith)
 
 -- so many chips were asked for as are in the buffer
 pub filled : (signal prn place count : ℕ) (old new : List ℕ) → length old ≡ count → 0 ≡ chips_answer signal prn place (length old)

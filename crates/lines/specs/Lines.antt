@@ -30,6 +30,10 @@ are_numbers signal prn place count = is_number signal && is_number prn && is_num
 abbrev pub is_count : ℕ → Bool
 is_count n = leb 1 n && leb n 64
 
+-- as many chips as Chips is asked for: the count, or none where it is refused
+abbrev pub chips_asked : ℕ → ℕ
+chips_asked n = cond (is_count n) n 0
+
 unfoldable pub line_refusal : ℕ → ℕ → ℕ → ℕ → ℕ
 line_refusal signal prn place count =
     cond (is_signal signal) (cond (is_prn prn) (cond (ltb place (week_of signal)) (cond (is_count count) 0 5) 3) 2) 1

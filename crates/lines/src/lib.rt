@@ -1,13 +1,13 @@
 // A line of the line program, and its reply. The four fields are cut first, and all else speaks of them.
 #![tactic(auto)]
 
-ghost use Rattle.std.specs.Prelude.{◌≡◌, true, false, ◌<◌, ◌≤◌, ◌+◌, ◌++◌, min, length, MatchResult};
+ghost use Rattle.std.specs.Prelude.{◌≡◌, true, false, ◌<◌, ◌≤◌, ◌+◌, ◌++◌, length, MatchResult};
 ghost use Rattle.arrayvec.specs.ArrayVec.{array_vec_len};
 ghost use Rattle.refusals.specs.Refusal.{number_of};
 ghost use Rattle.refusals.specs.declared.Refusal.TheVariants as refusals;
 ghost use Rattle.fields.specs.Fields.{is_number, value};
 ghost use Rattle.texts.specs.Texts.{refused_line};
-ghost use Rattle.lines.specs.Lines.{echoed, line_refusal, line_reply};
+ghost use Rattle.lines.specs.Lines.{chips_asked, echoed, line_refusal, line_reply};
 ghost use Rattle.gps_chips.specs.Chips.{by_the_machine, by_the_standards};
 ghost use Rattle.lines.specs.Inner.{are_numbers_of, asked_of, answered_of, fields_reply_of, AreShort};
 
@@ -78,9 +78,23 @@ impl<'a> Fields<'a> {
 }
 
 impl Asked {
-    // Fills a buffer of as many bytes as are asked for, but of 64 at most, with the chips.
+    // How many chips Chips is asked for.
+    #[tactic(auto, using(crate::proofs::LineReplies::few_asked, crate::proofs::LineReplies::none_asked))]
+    fn chip_count(self) -> usize
+        ensures value { result ≡ chips_asked self.count }
+        ensures few { result ≤ 64 }
+    {
+        if self.count <= MOST_COUNT {
+            self.count as usize
+        } else {
+            0
+        }
+    }
+
+    // Fills a buffer of as many bytes as Chips is asked for with the chips. Where the line may not
+    // ask for so many, that is refused last.
     fn chips(self, buffer: &mut [u8]) -> Result<(), Refusal>
-        requires { length buffer.old ≡ min self.count 64 }
+        requires { length buffer.old ≡ chips_asked self.count }
         ensures { MatchResult result
             (λ _. (line_refusal self.signal self.prn self.place self.count ≡ 0) × (buffer.new ≡ by_the_machine self.signal self.prn self.place self.count))
             (λ e. line_refusal self.signal self.prn self.place self.count ≡ number_of e) }
@@ -126,7 +140,7 @@ fn answer<const N: usize>(fields: Fields, out: &mut ArrayVec<u8, N>) -> Result<(
 {
     let asked = fields.asked()?;
     let mut buffer = [0u8; MOST_COUNT as usize];
-    let chips = &mut buffer[..asked.count.min(MOST_COUNT) as usize];
+    let chips = &mut buffer[..asked.chip_count()];
     asked.chips(chips)?;
     append_answer(fields, chips, out);
     Ok(())

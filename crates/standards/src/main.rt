@@ -4,6 +4,8 @@
 // two.
 #![tactic(auto)]
 
+use arrayvec::ArrayString;
+use std::fmt::{Display, Write};
 use std::io;
 
 mod chips;
@@ -11,8 +13,18 @@ mod code_phases;
 mod known;
 mod tables;
 
+// The bytes of a page: more than the tables have, which are some 11,100.
+const PAGE: usize = 16_384;
+
+// Formats a page and then writes it, in one write where the system takes so much at once.
+fn write_page(rt: &impl Print, page: impl Display + Drop) -> io::Result<()> {
+    let mut text = ArrayString::<PAGE>::new();
+    write!(text, "{page}").map_err(|_| io::Error::from(io::ErrorKind::InvalidInput))?;
+    rt.write_all(text.as_str().as_bytes())
+}
+
 // A write that fails is told and ends it.
 fn main(rt: HostRuntime) -> io::Result<()> {
-    rt.print(tables::Tables)?;
-    rt.print(known::KnownPlaces)
+    write_page(&rt, tables::Tables)?;
+    write_page(&rt, known::KnownPlaces)
 }

@@ -8,6 +8,7 @@ use Rattle.lines.specs.Lines.{line_reply}
 use Rattle.line_programs.specs.Lines.{ended, unended, joined, AllPlain}
 use Rattle.line_programs.specs.Dialogs.{Course, fed_with}
 use Rattle.texts.specs.Saying.{Plain}
+use Rattle.streams.specs.declared.Pending.{Pending}
 
 -- ---- the whole output
 
@@ -54,6 +55,10 @@ saying line input = replies line input ++ last_reply (rest line input)
 
 abbrev pub kept : List ℕ → List ℕ
 kept line = take 56 line
+
+-- the bytes that a line half come holds
+abbrev pub held : Pending → List ℕ
+held s = take s.len s.bytes
 
 -- ---- all that a stream does with bytes
 

@@ -1,8 +1,8 @@
 // A stream of lines, fed in chunks of any size, and its replies.
 #![tactic(auto)]
 
-ghost use Rattle.std.specs.Prelude.{ℕ, List};
-ghost use Rattle.streams.specs.Stream.{course, InOrder, AnyChunks, ByTheStandards};
+ghost use Rattle.std.specs.Prelude.{◌≡◌, ℕ, List, length};
+ghost use Rattle.streams.specs.Stream.{course, held, InOrder, AnyChunks, ByTheStandards};
 ghost use Rattle.streams.specs.Laws.{laws};
 ghost use Rattle.lines.specs.declared.TheConstants.{ROOM as longest};
 
@@ -49,6 +49,47 @@ impl<const N: usize> Answers<KEPT, N> for Replies {
     #[tactic(auto, using(crate::specs::Laws::begun_last))]
     fn answer_last(&self, _line: &[u8], _memory: &(), out: &mut ArrayVec<u8, N>) {
         texts::append_refused(Refusal::Line, out);
+    }
+}
+
+// ---- a line half come, as a value
+
+// The line that has no newline yet, or as much of it as is kept, as a value that can be copied: a
+// `Stream` is only cloned.
+#[derive(Clone, Copy, Debug, PartialEq, Eq)]
+pub struct Pending {
+    pub bytes: [u8; KEPT],
+    pub len: usize,
+}
+
+// Where a stream stands.
+impl From<&Stream> for Pending {
+    ghost from_gives = { λ stream pending. (held pending ≡ stream.now.line.items)
+        × (pending.len ≡ length stream.now.line.items) };
+
+    fn from(stream: &Stream) -> Pending {
+        let line = stream.line.as_slice();
+        let mut bytes = [0u8; KEPT];
+        bytes[..line.len()].copy_from_slice(line);
+        Pending {
+            bytes,
+            len: line.len(),
+        }
+    }
+}
+
+// A stream that stands there. Of a `len` above KEPT all bytes are its line.
+impl From<Pending> for Stream {
+    ghost from_gives = { λ pending stream. stream.line.items ≡ held pending };
+
+    fn from(pending: Pending) -> Stream {
+        let mut line = ArrayVec::from(pending.bytes);
+        line.truncate(pending.len);
+        Stream {
+            line,
+            memory: (),
+            answerer: Replies,
+        }
     }
 }
 
