@@ -245,6 +245,52 @@ impl<W: Write> Sink for &mut W {
     }
 }
 
+// The same of a reader or a writer that is owned: who lends this knows what it has come to.
+#[derive(Debug, Drop)]
+pub struct Plain<T> {
+    pub inner: T,
+}
+
+impl<R: Read> Read for Plain<R> {
+    ghost remaining = { λ r. R.remaining r.inner };
+
+    fn read(&mut self, buffer: &mut [u8]) -> io::Result<usize> {
+        self.inner.read(buffer)
+    }
+}
+
+impl<W: Write> Write for Plain<W> {
+    ghost contents = { λ w. W.contents w.inner };
+
+    fn write(&mut self, bytes: &[u8]) -> io::Result<usize> {
+        self.inner.write(bytes)
+    }
+
+    fn flush(&mut self) -> io::Result<()> {
+        self.inner.flush()
+    }
+}
+
+impl<R: Read> Source for Plain<R> {
+    ghost failed = { λ _. ⊤ };
+
+    ghost interrupted = { λ _. None };
+
+    fn fetch(&mut self, buffer: &mut [u8]) -> io::Result<usize> {
+        <Self as Read>::read(self, buffer)
+    }
+}
+
+impl<W: Write> Sink for Plain<W> {
+    ghost failed = { λ _. ⊤ };
+
+    ghost interrupted = { λ _. None };
+
+    fn put(&mut self, bytes: &[u8]) -> io::Result<usize> {
+        <Self as Write>::write(self, bytes)
+    }
+}
+
 // Whether a signal interrupted a call.
 fn is_interrupted(error: &io::Error) -> bool
     ensures { IsTrue result ↔ (error_kind error.now ≡ Interrupted) }
