@@ -37,3 +37,7 @@ pub record AsTheRows (s : ℕ) (t d : List ℕ) : Type 0 where
   pub few_stages : s ≤ 32
   -- d is empty, or else it is every row of the table by digits, one after the other
   pub as_rows : 0 < length d → d ≡ rows_by_digits (digits_of s) (rows_of s t) s t
+
+-- a table that has rows by digits has those of its rows
+abbrev pub WhereByDigits : ℕ → List ℕ → List ℕ → Type 0
+WhereByDigits s t d = 0 < length d → AsTheRows s t d

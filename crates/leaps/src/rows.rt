@@ -3,7 +3,7 @@
 ghost use Rattle.std.specs.Prelude.{◌≡◌, ◌<◌, ◌/◌, length};
 ghost use Rattle.registers.specs.Row.{combine};
 ghost use Rattle.leaps.specs.Leaps.{Room, rows_of, row_at, row_applied};
-ghost use Rattle.leaps.specs.Digits.{AsTheRows, at_digits};
+ghost use Rattle.leaps.specs.Digits.{WhereByDigits, at_digits};
 
 use crate::Table;
 use std::marker::Model;
@@ -56,7 +56,7 @@ impl Counted<u32> {
     pub(crate) fn apply_row(self, table: Table<'_>, k: u32) -> Counted<u32>
         requires room { Room self }
         requires row_there { k < rows_of table.width table.entries.now }
-        requires as_the_rows { AsTheRows table.width table.entries.now table.by_digits.now }
+        requires as_the_rows { WhereByDigits table.width table.entries.now table.by_digits.now }
         ensures { result ≡ row_applied (row_at table.entry.width table.entry.entries.now k) self }
     {
         let value = applied(table, k, self.value);
@@ -73,7 +73,7 @@ impl Counted<u32> {
 #[inline(always)]
 fn applied(table: Table<'_>, k: u32, register: u32) -> u32
     requires row_there { k < rows_of table.width table.entries.now }
-    requires as_the_rows { AsTheRows table.width table.entries.now table.by_digits.now }
+    requires as_the_rows { WhereByDigits table.width table.entries.now table.by_digits.now }
     ensures { result ≡ combine (row_at table.entry.width table.entry.entries.now k) register }
 {
     if table.by_digits.is_empty() {

@@ -22,7 +22,7 @@ pub slice_bounds-combined_by_digits-end : goal.slice_bounds-combined_by_digits-e
 slice_bounds-combined_by_digits-end c =
     let a = c.args in
     let some : 0 < length a.table.by_digits.now = omega (arith, eqb-false (length a.table.by_digits.now) 0 (sym c.is_empty.ensures ∙ c.if-is_empty.false)) in
-    let is = c.requires.as_the_rows.as_rows some in
+    let is = (c.requires.as_the_rows some).as_rows some in
     fits_kept (digits_of a.table.width) (rows_of a.table.width a.table.entries.now) a.table.width a.table.entries.now a.table.by_digits.now a.k is c.requires.row_there
 
 pub returns : goal.returns
@@ -31,7 +31,7 @@ returns c =
     let s = a.table.width in
     let g : ℕ = digits_of s in
     let some : 0 < length a.table.by_digits.now = omega (arith, eqb-false (length a.table.by_digits.now) 0 (sym c.is_empty.ensures ∙ c.if-is_empty.false)) in
-    let is = c.requires.as_the_rows.as_rows some in
+    let is = (c.requires.as_the_rows some).as_rows some in
     c.combined_by_digits.ensures
     ∙ kept_is g (rows_of s a.table.entries.now) s a.table.entries.now a.table.by_digits.now a.k is c.requires.row_there
     (omega arith) a.register (a.k * (g * 16) + g * 16 - a.k * (g * 16)) (omega arith)
