@@ -1,7 +1,7 @@
 // A session at the console: lines, fed in chunks of any size, and their answers. From line to line it keeps the channel that `.` stands for.
 #![tactic(auto)]
 
-ghost use Rattle.std.specs.Prelude.{◌≡◌, ◌++◌, ◌+◌, ◌≤◌, length};
+ghost use Rattle.std.specs.Prelude.{◌≡◌, ◌++◌, ◌+◌, ◌≤◌, length, take};
 ghost use Rattle.arrayvec.specs.ArrayVec.{array_vec_len};
 ghost use Rattle.commands.specs.Commands.{command_of};
 ghost use Rattle.sessions.specs.Sessions.{Talk as Standing, answer_of, last_of, talk, course, EverySession};
@@ -50,6 +50,47 @@ impl From<Option<Channel>> for Remembered {
 }
 
 pub type Session<'a> = Dialog<Console<'a>, KEPT>;
+
+// Where a session stands, as a value that can be copied: a `Session` is only cloned.
+#[derive(Clone, Copy, Debug, PartialEq, Eq)]
+pub struct State {
+    pub line: [u8; KEPT],
+    pub len: usize,
+    pub last: Option<Channel>,
+}
+
+impl<'a> From<&Session<'a>> for State {
+    ghost from_gives = { λ session state. (take state.len state.line ≡ session.now.line.items)
+        × (state.len ≡ length session.now.line.items) × (state.last ≡ session.now.memory.last) };
+
+    fn from(session: &Session<'a>) -> State {
+        let line = session.line.as_slice();
+        let mut bytes = [0u8; KEPT];
+        bytes[..line.len()].copy_from_slice(line);
+        State {
+            line: bytes,
+            len: line.len(),
+            last: session.memory.last,
+        }
+    }
+}
+
+impl State {
+    // A session of a console that stands there. Of a `len` above KEPT all bytes are its line.
+    pub fn session<'a>(self, console: Console<'a>) -> Session<'a>
+        ensures line { result.line.items ≡ take self.len self.line }
+        ensures last { result.memory.last ≡ self.last }
+        ensures answerer { result.answerer ≡ console.entry }
+    {
+        let mut line = ArrayVec::from(self.line);
+        line.truncate(self.len);
+        Session {
+            line,
+            memory: Remembered::from(self.last),
+            answerer: console,
+        }
+    }
+}
 
 impl<'a> Console<'a> {
     // The answer to a line that is given with its newline, behind what stands there. `last` is what `.` stands for, and `buffer` is lent to windows and chips.
