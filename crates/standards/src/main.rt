@@ -5,7 +5,7 @@
 #![tactic(auto)]
 
 use arrayvec::ArrayString;
-use std::fmt::{Display, Write};
+use std::fmt::Write;
 use std::io;
 
 mod chips;
@@ -13,18 +13,15 @@ mod code_phases;
 mod known;
 mod tables;
 
-// The bytes of a page: more than the tables have, which are some 11,100.
-const PAGE: usize = 16_384;
+// Room for all that is written: more than the tables and the places have, which are some 11,900 bytes.
+const ROOM: usize = 16_384;
 
-// Formats a page and then writes it, in one write where the system takes so much at once.
-fn write_page(rt: &impl Print, page: impl Display + Drop) -> io::Result<()> {
-    let mut text = ArrayString::<PAGE>::new();
-    write!(text, "{page}").map_err(|_| io::Error::from(io::ErrorKind::InvalidInput))?;
-    rt.write_all(text.as_str().as_bytes())
-}
-
+// All is formatted before any of it is written, in one write where the system takes so much at once.
 // A write that fails is told and ends it.
 fn main(rt: HostRuntime) -> io::Result<()> {
-    write_page(&rt, tables::Tables)?;
-    write_page(&rt, known::KnownPlaces)
+    let mut text = ArrayString::<ROOM>::new();
+    write!(text, "{}{}", tables::Tables, known::KnownPlaces).map_err(|_| io::Error::from(
+        io::ErrorKind::InvalidInput,
+    ))?;
+    rt.write_all(text.as_str().as_bytes())
 }
