@@ -160,7 +160,9 @@ impl<'a, const N: usize> Answers<KEPT, N> for Console<'a> {
         self.reply(ended.as_slice(), &mut memory.last, &mut memory.buffer, out);
     }
 
-    // A last line that lacks its newline is answered as if it had one.
+    // A last line that lacks its newline is answered as if it had one. Inlined, it would have every
+    // byte of a session pay for the copy's stack.
+    #[inline(never)]
     #[tactic(auto, using(crate::specs::Laws::begun_left))]
     fn answer_last(&self, line: &[u8], memory: &Remembered, out: &mut ArrayVec<u8, N>) {
         let mut memory = *memory;
